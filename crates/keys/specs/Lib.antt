@@ -1,0 +1,3 @@
+pub mod Readers
+pub mod Refusals
+pub mod Shares

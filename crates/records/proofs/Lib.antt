@@ -1,0 +1,4 @@
+mod BitLists
+mod FieldBytes
+mod Framed
+mod Masked

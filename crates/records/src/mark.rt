@@ -1,0 +1,35 @@
+ghost use mathlib.Core.Path.{_≡_};
+ghost use Rattle.records.specs.Marks.{length-of, mark-of};
+
+// The two bytes that a record begins with: they tell what it is.
+#[derive(Clone, Copy)]
+pub enum Mark {
+    Event,
+    Report,
+    Clear,
+}
+
+impl Mark {
+    // The mark that two bytes make, read as one number.
+    pub fn of(number: u16) -> Option<Mark>
+        ensures { λ r. ⌜ r ≡ mark-of number ⌝ }
+    {
+        match number {
+            0x5ae1 => Some(Mark::Event),
+            0x5ae2 => Some(Mark::Report),
+            0x5ae3 => Some(Mark::Clear),
+            _ => None,
+        }
+    }
+
+    // How many bytes a record with this mark has, the mark among them.
+    pub fn length(self) -> usize
+        ensures { λ r. ⌜ r ≡ length-of self ⌝ }
+    {
+        match self {
+            Mark::Event => 8,
+            Mark::Report => 10,
+            Mark::Clear => 2,
+        }
+    }
+}
