@@ -1,5 +1,5 @@
-use Prim.Native.Nat.{ℕ}
-use lib.Dec.{leb}
+use Prim.Native.Nat.{ℕ, _*_}
+use lib.Dec.{leb, ltb}
 use mathlib.Core.Bool.{Bool, cond, _&&_}
 use Rattle.std.specs.declared.result.Result.{Result}
 use Rattle.std.specs.declared.result.Result.the-variants.{Ok, Err}
@@ -13,3 +13,7 @@ is-share p q = leb 1 p && (leb p q && leb q 1000)
 -- what is told of p/q: its two numbers where it is a share, otherwise the number of the refusal
 abbrev pub share-of : ℕ → ℕ → Result (ℕ × ℕ) ℕ
 share-of p q = cond (is-share p q) (Ok (p, q)) (Err (number-of ImpossibleShare))
+
+-- whether a part is strictly more than p/q of the whole
+abbrev pub passes : ℕ → ℕ → ℕ → ℕ → Bool
+passes p q part whole = ltb (p * whole) (part * q)

@@ -5,3 +5,5 @@ pub mod key;
 pub mod reader;
 pub mod refusal;
 pub mod share;
+#[cfg(test)]
+mod tests;

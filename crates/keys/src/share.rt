@@ -1,7 +1,7 @@
 ghost use Prim.Native.Nat.{_≤_};
 ghost use mathlib.Core.Path.{_≡_};
 ghost use Rattle.keys.specs.Refusals.{told};
-ghost use Rattle.keys.specs.Shares.{share-of};
+ghost use Rattle.keys.specs.Shares.{passes, share-of};
 use crate::refusal::Refusal;
 
 // Two numbers p/q as they were given, which may be no share.
@@ -37,15 +37,10 @@ impl Fraction {
 }
 
 impl Share {
-    pub fn p(self) -> u16
-        ensures { λ r. ⌜ r ≡ self .p ⌝ }
+    // Whether a part is more than this share of the whole.
+    pub fn passed_by(self, part: u32, whole: u32) -> bool
+        ensures { λ r. ⌜ r ≡ passes (self .p) (self .q) part whole ⌝ }
     {
-        self.p
-    }
-
-    pub fn q(self) -> u16
-        ensures { λ r. ⌜ r ≡ self .q ⌝ }
-    {
-        self.q
+        u64::from(part) * u64::from(self.q) > u64::from(self.p) * u64::from(whole)
     }
 }

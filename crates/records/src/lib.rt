@@ -4,3 +4,5 @@ pub mod frame;
 pub mod mark;
 pub mod read;
 pub mod record;
+#[cfg(test)]
+mod tests;

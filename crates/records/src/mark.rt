@@ -1,3 +1,4 @@
+ghost use Prim.Native.Nat.{_≤_};
 ghost use mathlib.Core.Path.{_≡_};
 ghost use Rattle.records.specs.Marks.{length-of, mark-of};
 
@@ -24,7 +25,8 @@ impl Mark {
 
     // How many bytes a record with this mark has, the mark among them.
     pub fn length(self) -> usize
-        ensures { λ r. ⌜ r ≡ length-of self ⌝ }
+        ensures value { λ r. ⌜ r ≡ length-of self ⌝ }
+        ensures bound { λ r. ⌜ 2 ≤ r ⌝ ∗ ⌜ r ≤ 10 ⌝ }
     {
         match self {
             Mark::Event => 8,

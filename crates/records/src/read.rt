@@ -4,6 +4,7 @@ ghost use mathlib.Core.Path.{_≡_};
 ghost use Rattle.keys.specs.Refusals.{told};
 ghost use Rattle.records.specs.Marks.{length-of};
 ghost use Rattle.records.specs.Records.{content-of, event-in, mark-at-front, record-at-front, report-in};
+ghost use Rattle.std.specs.Vec.{made};
 use crate::field::four_bytes;
 use crate::field::two_bytes;
 use crate::frame::read_frame;
@@ -16,7 +17,8 @@ use keys::share::Fraction;
 // The mark of the record at the front, if the whole record is there. Refused, in this order, with
 // cut short for fewer than two bytes, strange mark, and cut short for a record that is not whole.
 pub fn front_mark(bytes: &[u8]) -> Result<Mark, Refusal>
-    ensures { λ r. ⌜ told (λ m. m) r ≡ mark-at-front (now (bytes .entry)) ⌝ }
+    ensures value { λ r. ⌜ told (λ m. m) r ≡ mark-at-front (now (bytes .entry)) ⌝ }
+    ensures within { λ r. ⌜ made r (λ m. length-of m ≤ length (now (bytes .entry))) ⌝ }
 {
     if bytes.len() < 2 {
         return Err(Refusal::CutShort);
