@@ -1,0 +1,16 @@
+pub mod Bounds
+pub mod ByRule
+pub mod Changed
+pub mod Cleared
+pub mod Counters
+pub mod Ends
+pub mod Fills
+pub mod Firsts
+pub mod Kept
+pub mod Literature
+pub mod OfKey
+pub mod Options
+pub mod Perms
+pub mod Ranges
+pub mod Runs
+pub mod Sounds

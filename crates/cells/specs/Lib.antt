@@ -1,0 +1,4 @@
+pub mod Cells
+pub mod MisraGries
+pub mod Rules
+pub mod Vouched
