@@ -13,8 +13,10 @@ use Rattle.std.specs.declared.option.Option.{Option}
 use Rattle.std.specs.declared.option.Option.the-variants.{Some, None}
 use native.Mathlib.Nat.{mul-comm}
 use Rattle.std.proofs.shelf.Bits.{le-div}
-use Rattle.tally.specs.Owed.{holds}
-use Rattle.cells.specs.Cells.{capped, cell-ends, ends, key-in, of-key, taken-by}
+use Rattle.tally.proofs.Counts.{held-nowhere, true-count-all}
+use Rattle.tally.specs.Arrivals.{occurs, true-count}
+use Rattle.tally.specs.Owed.{Contains, held-below, holds}
+use Rattle.cells.specs.Cells.{capped, cell-ends, ends, key-at, key-in, of-key, taken-by}
 use Rattle.cells.specs.Vouched.{Absent, Live, Sound, Vouched, counters}
 use Rattle.cells.specs.declared.cell.Cell.{Cell}
 use Rattle.cells.specs.declared.cell.Cell.the-variants.{Free, Held}
@@ -46,6 +48,17 @@ module _ {K R X : Type 0} (alike : K → K → Bool) (reads : R → Option K) wh
       (λ (t : is (s .key) ≡ false). rw t (high-below is level n cs (h .2)))
       (cases-bool (is (s .key)))
 
+  -- a key's true count lies in its range
+  pub contains : (cs : List (Cell R X)) (level n : ℕ) (xs : List K) → Vouched alike reads cs level n xs → (k : K) (t : ℕ) → n ≤ t → Contains alike t k xs (ends (of-key alike reads k) level cs .0) (ends (of-key alike reads k) level cs .1)
+  contains cs level n xs v k t le =
+      let l = v .long in
+      let f = v .few in
+      let o = v .ranged k in
+      let all = true-count-all alike t k xs (omega arith) in
+      let h = high-below (of-key alike reads k) level n cs (v .sound) in
+      let m = level-below alike reads cs level n xs v in
+      record { from = rw all (o .0); upto = rw all (o .1); bounded = omega arith }
+
   -- the level is at most n/(k + 1)
   pub level-share : (cs : List (Cell R X)) (level n : ℕ) (xs : List K) → Vouched alike reads cs level n xs → level ≤ n / (length cs + 1)
   level-share cs level n xs v =
@@ -66,5 +79,6 @@ module _ {K R X : Type 0} (alike : K → K → Bool) (reads : R → Option K) wh
   absent-from k [] h = tt
   absent-from k (c ∷ cs) h = (sym (taken-holds k c) ∙ h 0 (omega arith), absent-from k cs (λ i l. h (suc i) (omega arith)))
 
-  pub missed : (k : K) (level : ℕ) (cs : List (Cell R X)) → ((i : ℕ) → i < length cs → holds alike k (key-in reads (getD cs i Free)) ≡ false) → ends (of-key alike reads k) level cs ≡ (0, level)
-  missed k level cs h = ends-absent (of-key alike reads k) level cs (absent-from k cs h)
+  -- and so its range is 0 to the level
+  pub missed : (k : K) (level : ℕ) (cs : List (Cell R X)) → held-below alike (key-at reads cs) k (length cs) ≡ false → ends (of-key alike reads k) level cs ≡ (0, level)
+  missed k level cs h = ends-absent (of-key alike reads k) level cs (absent-from k cs (held-nowhere alike (key-at reads cs) k (length cs) h))

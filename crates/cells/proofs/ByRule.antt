@@ -19,19 +19,19 @@ use Rattle.cells.proofs.Changed.{changed, first-set}
 use Rattle.cells.proofs.Options.{cases-option}
 
 pub by-rule : {R X : Type 0} (P : List (Cell R X) → ℕ → Type 0) (is : R → Bool) (level : ℕ) (r : R) (x : X) (cs : List (Cell R X))
-  → ((i : ℕ) → first (taken-by is) 0 cs ≡ Some i → P (changed (taken-by is) counted cs) level)
-  → ((i : ℕ) → first (taken-by is) 0 cs ≡ None → first is-free 0 cs ≡ Some i → P (changed is-free (λ (c : Cell R X). entered level r x) cs) level)
-  → (first (taken-by is) 0 cs ≡ None → first is-free 0 cs ≡ None → P (map (worn (capped (level + 1))) cs) (capped (level + 1)))
-  → P (cells-after level r x cs (rule-for is cs)) (level-after level (rule-for is cs))
+    → ((i : ℕ) → first (taken-by is) 0 cs ≡ Some i → P (changed (taken-by is) counted cs) level)
+    → ((i : ℕ) → first (taken-by is) 0 cs ≡ None → first is-free 0 cs ≡ Some i → P (changed is-free (λ (c : Cell R X). entered level r x) cs) level)
+    → (first (taken-by is) 0 cs ≡ None → first is-free 0 cs ≡ None → P (map (worn (capped (level + 1))) cs) (capped (level + 1)))
+    → P (cells-after level r x cs (rule-for is cs)) (level-after level (rule-for is cs))
 by-rule {R} {X} P is level r x cs count enter raise =
     ⊎-elim
     (λ (f : first (taken-by is) 0 cs ≡ None). ⊎-elim
-      (λ (e : first is-free 0 cs ≡ None). rw (f, e) (raise f e))
-      (λ (e : (i : ℕ) × (first is-free 0 cs ≡ Some i)).
-        let w : set cs (e .0) (entered level r x) ≡ changed is-free (λ (c : Cell R X). entered level r x) cs = first-set is-free (λ (c : Cell R X). entered level r x) Free cs (e .0) (e .1) in
-        rw (f, e .1, w) (enter (e .0) f (e .1)))
-      (cases-option (first is-free 0 cs)))
+    (λ (e : first is-free 0 cs ≡ None). rw (f, e) (raise f e))
+    (λ (e : (i : ℕ) × (first is-free 0 cs ≡ Some i)).
+    let w : set cs (e .0) (entered level r x) ≡ changed is-free (λ (c : Cell R X). entered level r x) cs = first-set is-free (λ (c : Cell R X). entered level r x) Free cs (e .0) (e .1) in
+    rw (f, e .1, w) (enter (e .0) f (e .1)))
+    (cases-option (first is-free 0 cs)))
     (λ (f : (i : ℕ) × (first (taken-by is) 0 cs ≡ Some i)).
-      let w : set cs (f .0) (counted (getD cs (f .0) Free)) ≡ changed (taken-by is) counted cs = first-set (taken-by is) counted Free cs (f .0) (f .1) in
-      rw (f .1, w) (count (f .0) (f .1)))
+    let w : set cs (f .0) (counted (getD cs (f .0) Free)) ≡ changed (taken-by is) counted cs = first-set (taken-by is) counted Free cs (f .0) (f .1) in
+    rw (f .1, w) (count (f .0) (f .1)))
     (cases-option (first (taken-by is) 0 cs))

@@ -27,15 +27,15 @@ first-set-from p f d [] j i e = let z : _≡_ {A = ℕ} 0 1 = cc in absurd (omeg
 first-set-from p f d (x ∷ xs) j i e =
     ⊎-elim
     (λ (t : p x ≡ true).
-      let a : Some j ≡ Some i = rw t at e in
-      let b : j ≡ i = cc in
-      let z : i - j ≡ 0 = omega arith in
-      (omega arith, rw (z, t) refl))
+    let a : Some j ≡ Some i = rw t at e in
+    let b : j ≡ i = cc in
+    let z : i - j ≡ 0 = omega arith in
+    (omega arith, rw (z, t) refl))
     (λ (t : p x ≡ false).
-      let r = first-set-from p f d xs (j + 1) i (rw t at e) in
-      let l : j + 1 ≤ i = r .0 in
-      let z : i - j ≡ suc (i - (j + 1)) = omega arith in
-      (omega arith, rw (z, t) (ap (λ (ys : List _). x ∷ ys) (r .1))))
+    let r = first-set-from p f d xs (j + 1) i (rw t at e) in
+    let l : j + 1 ≤ i = r .0 in
+    let z : i - j ≡ suc (i - (j + 1)) = omega arith in
+    (omega arith, rw (z, t) (ap (λ (ys : List _). x ∷ ys) (r .1))))
     (cases-bool (p x))
 
 pub first-set : {X : Type 0} (p : X → Bool) (f : X → X) (d : X) (xs : List X) (i : ℕ) → first p 0 xs ≡ Some i → set xs i (f (getD xs i d)) ≡ changed p f xs

@@ -34,17 +34,17 @@ module _ {K R : Type 0} (X : Type 0) (alike : K → K → Bool) (reads : R → O
 
   pub cleared-vouches : (m : ℕ) (ds : List (Cell R X)) → ds ≡ free m → Vouched alike reads ds 0 0 []
   cleared-vouches m ds e = rw e (record {
-      long = refl;
-      few = omega arith;
-      ranged = λ k. rw (ends-free k m) (omega arith, omega arith);
-      sound = sound-free m;
-      covered = rw (counters-free m, mul-zero (length (free m) + 1)) (omega arith);
-    })
+    long = refl;
+    few = omega arith;
+    ranged = λ k. rw (ends-free k m) (omega arith, omega arith);
+    sound = sound-free m;
+    covered = rw (counters-free m, mul-zero (length (free m) + 1)) (omega arith);
+  })
 
   pub cleared-ran : (m : ℕ) (ds : List (Cell R X)) → ds ≡ free m → Ran alike reads ds 0 0 []
   cleared-ran m ds e = rw e (record {
-      vouched = cleared-vouches m (free m) refl;
-      total = rw (counters-free m, mul-zero (length (free m) + 1)) (omega arith);
-      same-counters = keys-free m;
-      same-decrements = refl;
-    })
+    vouched = cleared-vouches m (free m) refl;
+    total = rw (counters-free m, mul-zero (length (free m) + 1)) (omega arith);
+    same-counters = keys-free m;
+    same-decrements = refl;
+  })

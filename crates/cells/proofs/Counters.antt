@@ -32,8 +32,8 @@ module _ {K R X : Type 0} (alike : K → K → Bool) (reads : R → Option K) wh
       ⊎-elim
       (λ (t : of (s .key) ≡ true). rw (t, counters-cons level (counted (Held s)) cs, counters-cons level (Held s) cs) (omega arith))
       (λ (t : of (s .key) ≡ false).
-        let r = counters-counted of level n cs (j + 1) i few (h .2) (rw t at e) in
-        rw (t, counters-cons level (Held s) (changed (taken-by of) counted cs), counters-cons level (Held s) cs) (omega arith))
+      let r = counters-counted of level n cs (j + 1) i few (h .2) (rw t at e) in
+      rw (t, counters-cons level (Held s) (changed (taken-by of) counted cs), counters-cons level (Held s) cs) (omega arith))
       (cases-bool (of (s .key)))
 
   pub counters-raised : (level n : ℕ) (cs : List (Cell R X)) (j : ℕ) → Sound alike reads level n cs → first is-free j cs ≡ None → counters (level + 1) (map (worn (level + 1)) cs) + length cs ≡ counters level cs
@@ -45,12 +45,12 @@ module _ {K R X : Type 0} (alike : K → K → Bool) (reads : R → Option K) wh
       let a = counters-cons level (Held s) cs in
       ⊎-elim
       (λ (t : eqb (s .count + s .mark) (level + 1) ≡ true).
-        let q = eqb-true (s .count + s .mark) (level + 1) t in
-        let b = counters-cons (level + 1) Free (map (worn (level + 1)) cs) in
-        rw t (omega arith))
+      let q = eqb-true (s .count + s .mark) (level + 1) t in
+      let b = counters-cons (level + 1) Free (map (worn (level + 1)) cs) in
+      rw t (omega arith))
       (λ (t : eqb (s .count + s .mark) (level + 1) ≡ false).
-        let b = counters-cons (level + 1) (Held s) (map (worn (level + 1)) cs) in
-        rw t (omega arith))
+      let b = counters-cons (level + 1) (Held s) (map (worn (level + 1)) cs) in
+      rw t (omega arith))
       (cases-bool (eqb (s .count + s .mark) (level + 1)))
 
 pub counters-entered : {R X : Type 0} (level : ℕ) (new : Slot R X) → new .count + new .mark ≡ level + 1 → (cs : List (Cell R X)) (j i : ℕ) → first is-free j cs ≡ Some i → counters level (changed is-free (λ (c : Cell R X). Held new) cs) ≡ counters level cs + 1

@@ -53,8 +53,8 @@ module _ {K R X : Type 0} (alike : K → K → Bool) (reads : R → Option K) (l
       ⊎-elim
       (λ (t : of-key alike reads x (s .key) ≡ true). let f : alike x k ≡ true = sym at ∙ t in rw (h .0 .1, f) refl)
       (λ (t : of-key alike reads x (s .key) ≡ false).
-        let f : alike x k ≡ false = sym at ∙ t in
-        rw (h .0 .1, f) (has-one x level n cs (j + 1) i (h .2) (rw t at e)))
+      let f : alike x k ≡ false = sym at ∙ t in
+      rw (h .0 .1, f) (has-one x level n cs (j + 1) i (h .2) (rw t at e)))
       (cases-bool (of-key alike reads x (s .key)))
 
   -- a key is counted
@@ -67,13 +67,13 @@ module _ {K R X : Type 0} (alike : K → K → Bool) (reads : R → Option K) (l
       let at = of-key-at alike reads law x k (s .key) (h .0 .1) in
       ⊎-elim
       (λ (t : of-key alike reads x (s .key) ≡ true).
-        let f : alike x k ≡ true = sym at ∙ t in
-        let gone = absent-agree (of-key alike reads x) (of-key alike reads k) (agree alike reads law x k f) cs (h .0 .2) in
-        let c : capped (s .count + 1) + s .mark - level ≡ s .count + s .mark - level + 1 = omega arith in
-        rw (t, h .0 .1, f, c, incremented-none x level n cs (h .2) gone) refl)
+      let f : alike x k ≡ true = sym at ∙ t in
+      let gone = absent-agree (of-key alike reads x) (of-key alike reads k) (agree alike reads law x k f) cs (h .0 .2) in
+      let c : capped (s .count + 1) + s .mark - level ≡ s .count + s .mark - level + 1 = omega arith in
+      rw (t, h .0 .1, f, c, incremented-none x level n cs (h .2) gone) refl)
       (λ (t : of-key alike reads x (s .key) ≡ false).
-        let f : alike x k ≡ false = sym at ∙ t in
-        rw (t, h .0 .1, f) (ap (λ (r : List (K × ℕ)). (k, s .count + s .mark - level) ∷ r) (keys-counted x level n cs few (h .2))))
+      let f : alike x k ≡ false = sym at ∙ t in
+      rw (t, h .0 .1, f) (ap (λ (r : List (K × ℕ)). (k, s .count + s .mark - level) ∷ r) (keys-counted x level n cs few (h .2))))
       (cases-bool (of-key alike reads x (s .key)))
 
   -- a key enters, where a cell is free
@@ -98,14 +98,14 @@ module _ {K R X : Type 0} (alike : K → K → Bool) (reads : R → Option K) (l
       let c = s .count + s .mark - level in
       ⊎-elim
       (λ (t : eqb (s .count + s .mark) (level + 1) ≡ true).
-        let q = eqb-true (s .count + s .mark) (level + 1) t in
-        let z : ltb 0 (c - 1) ≡ false = le-ltb 0 (c - 1) (omega arith) in
-        rw (t, h .0 .1, z) (keys-raised level n cs (h .2)))
+      let q = eqb-true (s .count + s .mark) (level + 1) t in
+      let z : ltb 0 (c - 1) ≡ false = le-ltb 0 (c - 1) (omega arith) in
+      rw (t, h .0 .1, z) (keys-raised level n cs (h .2)))
       (λ (t : eqb (s .count + s .mark) (level + 1) ≡ false).
-        let ne = eqb-false (s .count + s .mark) (level + 1) t in
-        let z : ltb 0 (c - 1) ≡ true = lt-ltb 0 (c - 1) (omega (arith, ne)) in
-        let d : s .count + s .mark - (level + 1) ≡ c - 1 = omega arith in
-        rw (t, h .0 .1, z, d) (ap (λ (r : List (K × ℕ)). (k, c - 1) ∷ r) (keys-raised level n cs (h .2))))
+      let ne = eqb-false (s .count + s .mark) (level + 1) t in
+      let z : ltb 0 (c - 1) ≡ true = lt-ltb 0 (c - 1) (omega (arith, ne)) in
+      let d : s .count + s .mark - (level + 1) ≡ c - 1 = omega arith in
+      rw (t, h .0 .1, z, d) (ap (λ (r : List (K × ℕ)). (k, c - 1) ∷ r) (keys-raised level n cs (h .2))))
       (cases-bool (eqb (s .count + s .mark) (level + 1)))
 
   keys-few : (level : ℕ) (cs : List (Cell R X)) → length (keys level cs) ≤ length cs

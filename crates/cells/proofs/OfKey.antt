@@ -32,11 +32,11 @@ module _ {K R : Type 0} (alike : K → K → Bool) (reads : R → Option K) (law
   apart a b e r t =
       ⊎-elim
       (λ (f : of-key alike reads a r ≡ true). ⊎-elim
-        (λ (n : reads r ≡ None). rw (n, of-key) refl)
-        (λ (s : (x : K) × (reads r ≡ Some x)).
-          let p : alike a (s .0) ≡ true = sym (of-key-at a (s .0) r (s .1)) ∙ f in
-          let q : alike b (s .0) ≡ true = sym (of-key-at b (s .0) r (s .1)) ∙ t in
-          absurd (both-ways (alike a b) e (law .transitive a (s .0) b p (law .symmetric b (s .0) q))))
-        (cases-option (reads r)))
+      (λ (n : reads r ≡ None). rw (n, of-key) refl)
+      (λ (s : (x : K) × (reads r ≡ Some x)).
+      let p : alike a (s .0) ≡ true = sym (of-key-at a (s .0) r (s .1)) ∙ f in
+      let q : alike b (s .0) ≡ true = sym (of-key-at b (s .0) r (s .1)) ∙ t in
+      absurd (both-ways (alike a b) e (law .transitive a (s .0) b p (law .symmetric b (s .0) q))))
+      (cases-option (reads r)))
       (λ (f : of-key alike reads a r ≡ false). f)
       (cases-bool (of-key alike reads a r))

@@ -31,13 +31,13 @@ perm-kept p (List·Permᴰ·cons {a} {b} e d) =
 perm-kept p (List·Permᴰ·swap {a} {b} {a′} {b′} {l} e f) =
     ⊎-elim
     (λ (t : p a ≡ true). let t′ : p b′ ≡ true = sym (ap p e) ∙ t in ⊎-elim
-      (λ (u : p b ≡ true). let u′ : p a′ ≡ true = sym (ap p f) ∙ u in rw (t, u, t′, u′) (List·Permᴰ·swap e f))
-      (λ (u : p b ≡ false). let u′ : p a′ ≡ false = sym (ap p f) ∙ u in rw (t, u, t′, u′) (List·Permᴰ·cons e (Permᴰ·refl (kept-by p l))))
-      (cases-bool (p b)))
+    (λ (u : p b ≡ true). let u′ : p a′ ≡ true = sym (ap p f) ∙ u in rw (t, u, t′, u′) (List·Permᴰ·swap e f))
+    (λ (u : p b ≡ false). let u′ : p a′ ≡ false = sym (ap p f) ∙ u in rw (t, u, t′, u′) (List·Permᴰ·cons e (Permᴰ·refl (kept-by p l))))
+    (cases-bool (p b)))
     (λ (t : p a ≡ false). let t′ : p b′ ≡ false = sym (ap p e) ∙ t in ⊎-elim
-      (λ (u : p b ≡ true). let u′ : p a′ ≡ true = sym (ap p f) ∙ u in rw (t, u, t′, u′) (List·Permᴰ·cons f (Permᴰ·refl (kept-by p l))))
-      (λ (u : p b ≡ false). let u′ : p a′ ≡ false = sym (ap p f) ∙ u in rw (t, u, t′, u′) (Permᴰ·refl (kept-by p l)))
-      (cases-bool (p b)))
+    (λ (u : p b ≡ true). let u′ : p a′ ≡ true = sym (ap p f) ∙ u in rw (t, u, t′, u′) (List·Permᴰ·cons f (Permᴰ·refl (kept-by p l))))
+    (λ (u : p b ≡ false). let u′ : p a′ ≡ false = sym (ap p f) ∙ u in rw (t, u, t′, u′) (Permᴰ·refl (kept-by p l)))
+    (cases-bool (p b)))
     (cases-bool (p a))
 perm-kept p (List·Permᴰ·trans d f) = List·Permᴰ·trans (perm-kept p d) (perm-kept p f)
 

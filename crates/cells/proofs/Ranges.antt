@@ -43,16 +43,16 @@ count-other is is0 level far (Held s ∷ cs) =
 
 -- and of the same key, where its cell has room
 pub count-same : {R X : Type 0} (is is0 : R → Bool) (level n : ℕ) → ((r : R) → is r ≡ is0 r) → n < 100_000_000 → level ≤ n → {K : Type 0} (alike : K → K → Bool) (reads : R → Option K) (cs : List (Cell R X)) (j i : ℕ) → Sound alike reads level n cs → first (taken-by is0) j cs ≡ Some i →
-  (ends is level (changed (taken-by is0) counted cs) .0 ≡ ends is level cs .0 + 1) × (ends is level (changed (taken-by is0) counted cs) .1 ≡ ends is level cs .1 + 1)
+    (ends is level (changed (taken-by is0) counted cs) .0 ≡ ends is level cs .0 + 1) × (ends is level (changed (taken-by is0) counted cs) .1 ≡ ends is level cs .1 + 1)
 count-same is is0 level n one few le alike reads [] j i sound e = let z : _≡_ {A = ℕ} 0 1 = cc in absurd (omega arith)
 count-same is is0 level n one few le alike reads (Free ∷ cs) j i sound e = count-same is is0 level n one few le alike reads cs (j + 1) i sound e
 count-same is is0 level n one few le alike reads (Held s ∷ cs) j i sound e =
     ⊎-elim
     (λ (h : is0 (s .key) ≡ true). let z : is (s .key) ≡ true = one (s .key) ∙ h in
-      let live = sound .1 in
-      rw (h, z) (omega arith, omega arith))
+    let live = sound .1 in
+    rw (h, z) (omega arith, omega arith))
     (λ (h : is0 (s .key) ≡ false). let z : is (s .key) ≡ false = one (s .key) ∙ h in
-      rw (h, z) (count-same is is0 level n one few le alike reads cs (j + 1) i (sound .2) (rw h at e)))
+    rw (h, z) (count-same is is0 level n one few le alike reads cs (j + 1) i (sound .2) (rw h at e)))
     (cases-bool (is0 (s .key)))
 
 -- a key enters: the range of another key, and of the key itself
@@ -79,18 +79,18 @@ Once is (Free ∷ cs) = Once is cs
 Once is (Held s ∷ cs) = (is (s .key) ≡ true → Absent is cs) × Once is cs
 
 pub raise-other : {R X : Type 0} (is : R → Bool) (level : ℕ) (cs : List (Cell R X)) → Once is cs →
-  (ends is (level + 1) (map (worn (level + 1)) cs) .0 ≤ ends is level cs .0) × (ends is level cs .1 ≤ ends is (level + 1) (map (worn (level + 1)) cs) .1)
+    (ends is (level + 1) (map (worn (level + 1)) cs) .0 ≤ ends is level cs .0) × (ends is level cs .1 ≤ ends is (level + 1) (map (worn (level + 1)) cs) .1)
 raise-other is level [] h = (omega arith, omega arith)
 raise-other is level (Free ∷ cs) h = raise-other is level cs h
 raise-other is level (Held s ∷ cs) h =
     ⊎-elim
     (λ (e : eqb (s .count + s .mark) (level + 1) ≡ true). ⊎-elim
-      (λ (z : is (s .key) ≡ true). let n = eqb-true (s .count + s .mark) (level + 1) e in
-        rw (e, z, ends-absent is (level + 1) (map (worn (level + 1)) cs) (absent-worn is (level + 1) cs (h .0 z))) (omega arith, omega arith))
-      (λ (z : is (s .key) ≡ false). rw (e, z) (raise-other is level cs (h .1)))
-      (cases-bool (is (s .key))))
+    (λ (z : is (s .key) ≡ true). let n = eqb-true (s .count + s .mark) (level + 1) e in
+    rw (e, z, ends-absent is (level + 1) (map (worn (level + 1)) cs) (absent-worn is (level + 1) cs (h .0 z))) (omega arith, omega arith))
+    (λ (z : is (s .key) ≡ false). rw (e, z) (raise-other is level cs (h .1)))
+    (cases-bool (is (s .key))))
     (λ (e : eqb (s .count + s .mark) (level + 1) ≡ false). ⊎-elim
-      (λ (z : is (s .key) ≡ true). rw (e, z) (omega arith, omega arith))
-      (λ (z : is (s .key) ≡ false). rw (e, z) (raise-other is level cs (h .1)))
-      (cases-bool (is (s .key))))
+    (λ (z : is (s .key) ≡ true). rw (e, z) (omega arith, omega arith))
+    (λ (z : is (s .key) ≡ false). rw (e, z) (raise-other is level cs (h .1)))
+    (cases-bool (is (s .key))))
     (cases-bool (eqb (s .count + s .mark) (level + 1)))

@@ -112,12 +112,12 @@ module _ {K R X : Type 0} (alike : K → K → Bool) (reads : R → Option K) (l
       let le = level-below alike reads cs level n xs (v .vouched) in
       let up : capped (level + 1) ≡ level + 1 = omega arith in
       let exact : Next ds lv =
-          by-rule Next of level r x cs
-          (λ i e. count-exact i few e v)
-          (λ i f e. enter-exact i (first-none of cs 0 f) e v)
-          (λ f e. rw up (raise-exact (first-none of cs 0 f) e v)) in
+      by-rule Next of level r x cs
+      (λ i e. count-exact i few e v)
+      (λ i f e. enter-exact i (first-none of cs 0 f) e v)
+      (λ f e. rw up (raise-exact (first-none of cs 0 f) e v)) in
       let step : misra-gries alike (length ds) (xs ++ key ∷ []) ≡ with-arrival alike (length cs) summary key =
-          ap (λ (k : ℕ). misra-gries alike k (xs ++ key ∷ [])) (exact .size) ∙ folded-push (with-arrival alike (length cs)) (record { entries = []; decrements = 0 }) xs key in
+      ap (λ (k : ℕ). misra-gries alike k (xs ++ key ∷ [])) (exact .size) ∙ folded-push (with-arrival alike (length cs)) (record { entries = []; decrements = 0 }) xs key in
       record {
         vouched = note-kept alike reads law key r restored x cs level n xs few (v .vouched);
         total = exact .total ∙ ap (λ (k : ℕ). (k + 1) * lv + counters lv ds) (sym (exact .size));

@@ -46,9 +46,9 @@ module _ {K R X : Type 0} (alike : K → K → Bool) (reads : R → Option K) (l
   sound-once k level n [] h = tt
   sound-once k level n (Free ∷ cs) h = sound-once k level n cs h
   sound-once k level n (Held s ∷ cs) h = (
-      λ e. absent-agree (of-key alike reads k) (of-key alike reads (h .0 .0)) (agree alike reads law k (h .0 .0) (sym (of-key-at alike reads law k (h .0 .0) (s .key) (h .0 .1)) ∙ e)) cs (h .0 .2),
-      sound-once k level n cs (h .2),
-    )
+    λ e. absent-agree (of-key alike reads k) (of-key alike reads (h .0 .0)) (agree alike reads law k (h .0 .0) (sym (of-key-at alike reads law k (h .0 .0) (s .key) (h .0 .1)) ∙ e)) cs (h .0 .2),
+    sound-once k level n cs (h .2),
+  )
 
   live-more : (level n : ℕ) (s : Slot R X) → Live level n s → Live level (n + 1) s
   live-more level n s l = record { ahead = l .ahead; marked = l .marked; some = l .some; within = omega arith }
@@ -85,11 +85,11 @@ module _ {K R X : Type 0} (alike : K → K → Bool) (reads : R → Option K) (l
       ⊎-elim
       (λ (t : eqb (s .count + s .mark) (level + 1) ≡ true). rw t (sound-raised level n cs (h .2)))
       (λ (t : eqb (s .count + s .mark) (level + 1) ≡ false).
-        let ne = eqb-false (s .count + s .mark) (level + 1) t in
-        let more : level + 1 < s .count + s .mark = omega (arith, ne) in
-        rw t (
-          (h .0 .0, h .0 .1, absent-worn (of-key alike reads (h .0 .0)) (level + 1) cs (h .0 .2)),
-          record { ahead = more; marked = omega arith; some = l .some; within = omega arith },
-          sound-raised level n cs (h .2),
-        ))
+      let ne = eqb-false (s .count + s .mark) (level + 1) t in
+      let more : level + 1 < s .count + s .mark = omega (arith, ne) in
+      rw t (
+        (h .0 .0, h .0 .1, absent-worn (of-key alike reads (h .0 .0)) (level + 1) cs (h .0 .2)),
+        record { ahead = more; marked = omega arith; some = l .some; within = omega arith },
+        sound-raised level n cs (h .2),
+      ))
       (cases-bool (eqb (s .count + s .mark) (level + 1)))

@@ -84,6 +84,10 @@ module _ {R X : Type 0} where
   key-in reads Free = None
   key-in reads (Held s) = reads (s .key)
 
+  -- and at a place, counting from 0; none past the last
+  abbrev pub key-at : {K : Type 0} → (R → Option K) → List (Cell R X) → ℕ → Option K
+  key-at reads cs i = key-in reads (getD cs i Free)
+
 -- the level after an arrival that met a rule
 abbrev pub level-after : ℕ → Rule → ℕ
 level-after level (Count i) = level

@@ -39,8 +39,8 @@ module _ {K : Type 0} (alike : K → K → Bool) where
       cond (has-counter x (s .entries))
       (record { entries = map (incremented x) (s .entries); decrements = s .decrements })
       (cond (ltb (length (s .entries)) k)
-        (record { entries = (x, 1) ∷ s .entries; decrements = s .decrements })
-        (record { entries = decremented (s .entries); decrements = s .decrements + 1 }))
+      (record { entries = (x, 1) ∷ s .entries; decrements = s .decrements })
+      (record { entries = decremented (s .entries); decrements = s .decrements + 1 }))
 
   -- the summary after a list of arrivals
   abbrev pub misra-gries : ℕ → List K → Summary K

@@ -1,8 +1,14 @@
-ghost use mathlib.Core.List.{map};
+ghost use Prim.Native.Nat.{ℕ, _/_, _+_, _≤_};
+ghost use lib.ListN.{length};
+ghost use mathlib.Core.List.{List, [], map};
 ghost use mathlib.Core.Path.{_≡_};
-ghost use Rattle.cells.specs.Cells.{emptied, ends, of-key, worn};
+ghost use Rattle.cells.specs.Vouched.{Ran, Vouched};
+ghost use Rattle.std.specs.declared.option.Option.the-variants.{None};
+ghost use Rattle.tally.specs.Owed.{Contains};
+ghost use Rattle.cells.specs.Cells.{emptied, ends, key-at, of-key, worn};
 use crate::cell::Cell;
 use crate::one::ends_in;
+use crate::one::key_of;
 use crate::one::wear_one;
 use keys::key::Key;
 
@@ -15,8 +21,7 @@ pub(crate) fn wear<R: Copy, X: Copy>(cells: &mut [Cell<R, X>], level: u32)
     }
 }
 
-// Frees all cells.
-pub fn empty_cells<R: Copy, X: Copy>(cells: &mut [Cell<R, X>])
+fn free_all<R: Copy, X: Copy>(cells: &mut [Cell<R, X>])
     ensures { λ _. ⌜ now (cells .exit) ≡ emptied (now (cells .entry)) ⌝ }
 {
     for c in cells.iter_mut() {
@@ -24,8 +29,15 @@ pub fn empty_cells<R: Copy, X: Copy>(cells: &mut [Cell<R, X>])
     }
 }
 
-// The range of a key in cells at a level: low end and high end.
-pub fn range_in<K: Key, X: Copy>(cells: &[Cell<K::Record, X>], level: u32, key: K) -> (u32, u32)
+// Frees all cells. At level 0 they are then where a run of no arrivals leads.
+pub fn empty_cells<K: Key, X: Copy>(cells: &mut [Cell<K::Record, X>])
+    ensures cells { λ _. ⌜ now (cells .exit) ≡ emptied (now (cells .entry)) ⌝ }
+    ensures ran { λ _. ⌜ Ran (K·Key .alike) (K·Key .reads) (now (cells .exit)) 0 0 [] ⌝ }
+{
+    free_all(cells);
+}
+
+fn find_ends<K: Key, X: Copy>(cells: &[Cell<K::Record, X>], level: u32, key: K) -> (u32, u32)
     ensures { λ r. ⌜ r ≡ ends (of-key (K·Key .alike) (K·Key .reads) key) level (now (cells .entry)) ⌝ }
 {
     for c in cells {
@@ -34,4 +46,24 @@ pub fn range_in<K: Key, X: Copy>(cells: &[Cell<K::Record, X>], level: u32, key: 
         }
     }
     (0, level)
+}
+
+// The range of a key in cells at a level: low end and high end. It is true of every list of arrivals
+// that the cells vouch for, over the whole of it.
+pub fn range_in<K: Key, X: Copy>(cells: &[Cell<K::Record, X>], level: u32, key: K) -> (u32, u32)
+    ensures value { λ r. ⌜ r ≡ ends (of-key (K·Key .alike) (K·Key .reads) key) level (now (cells .entry)) ⌝ }
+    ensures truth { λ r. ⌜ ((t n : ℕ) (xs : List K) → n ≤ t → Vouched (K·Key .alike) (K·Key .reads) (now (cells .entry)) level n xs → Contains (K·Key .alike) t key xs (r .0) (r .1)) ⌝ }
+{
+    find_ends(cells, level, key)
+}
+
+// The key held at a place, counting from 0, if there is one.
+pub fn key_at<K: Key, X: Copy>(cells: &[Cell<K::Record, X>], place: usize) -> Option<K>
+    ensures value { λ r. ⌜ r ≡ key-at (K·Key .reads) (now (cells .entry)) place ⌝ }
+    ensures past { λ r. ⌜ (length (now (cells .entry)) ≤ place → r ≡ None) ⌝ }
+{
+    if place >= cells.len() {
+        return None;
+    }
+    key_of(cells[place])
 }

@@ -20,7 +20,12 @@ fn apply<K: Key, X: Copy>(cells: &mut [Cell<K::Record, X>], level: u32, key: K, 
     let rule = find_rule(cells, key);
     match rule {
         Rule::Count(i) => cells[i] = count_one(cells[i]),
-        Rule::Enter(i) => cells[i] = Cell::Held(Slot { key: key.record(), count: 1, mark: level, beside }),
+        Rule::Enter(i) => cells[i] = Cell::Held(Slot {
+            key: key.record(),
+            count: 1,
+            mark: level,
+            beside,
+        }),
         Rule::Raise => wear(cells, level.saturating_add(1)),
     }
     rule
@@ -29,7 +34,12 @@ fn apply<K: Key, X: Copy>(cells: &mut [Cell<K::Record, X>], level: u32, key: K, 
 // Notes an arrival of a key in cells at a level, and tells the rule that it met, from which the new
 // level follows. A key that enters has `beside` with it. Cells that vouched for a list of arrivals
 // vouch for it with the key at its end, and so does a whole run.
-pub fn note_in<K: Key, X: Copy>(cells: &mut [Cell<K::Record, X>], level: u32, key: K, beside: X) -> Rule
+pub fn note_in<K: Key, X: Copy>(
+    cells: &mut [Cell<K::Record, X>],
+    level: u32,
+    key: K,
+    beside: X,
+) -> Rule
     ensures rule { λ r. ⌜ r ≡ rule-for (of-key (K·Key .alike) (K·Key .reads) key) (now (cells .entry)) ⌝ }
     ensures cells { λ r. ⌜ now (cells .exit) ≡ cells-after level (K·Key .lies key) beside (now (cells .entry)) (rule-for (of-key (K·Key .alike) (K·Key .reads) key) (now (cells .entry))) ⌝ }
     ensures vouched { λ r. ⌜ ((n : ℕ) (xs : List K) → n < most-arrivals → Vouched (K·Key .alike) (K·Key .reads) (now (cells .entry)) level n xs → Vouched (K·Key .alike) (K·Key .reads) (now (cells .exit)) (level-after level r) (n + 1) (xs ++ (key ∷ []))) ⌝ }

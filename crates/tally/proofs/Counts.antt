@@ -1,11 +1,17 @@
 -- how a count grows with an arrival
-use Prim.Native.Nat.{ℕ, _+_}
+use Prim.Native.Nat.{ℕ, zero, suc, _+_, _-_, _<_, _≤_}
+use lib.ListN.{length, drop}
 use mathlib.Core.Bool.{Bool, true, false, cond}
 use mathlib.Core.List.{List, [], _∷_, _++_}
-use mathlib.Core.Path.{_≡_, ap, _∙_}
+use mathlib.Core.Logic.{⊎-elim}
+use mathlib.Core.Path.{_≡_, refl, ap, _∙_}
 use native.Mathlib.Nat.{add-zero}
+use native.Mathlib.Omega.{arith}
 use Rattle.std.proofs.shelf.Sums.{sumBy-push}
-use Rattle.tally.specs.Arrivals.{occurs}
+use Rattle.std.proofs.shelf.Tests.{cases-lt, or-parts}
+use Rattle.std.specs.declared.option.Option.{Option}
+use Rattle.tally.specs.Arrivals.{latest, occurs, true-count}
+use Rattle.tally.specs.Owed.{held-below, holds}
 
 module _ {K : Type 0} (alike : K → K → Bool) (k j : K) (xs : List K) where
   one-more : occurs alike k (xs ++ j ∷ []) ≡ occurs alike k xs + cond (alike k j) 1 0
@@ -16,3 +22,20 @@ module _ {K : Type 0} (alike : K → K → Bool) (k j : K) (xs : List K) where
 
   pub occurs-other : alike k j ≡ false → occurs alike k (xs ++ j ∷ []) ≡ occurs alike k xs
   occurs-other e = one-more ∙ ap (λ b. occurs alike k xs + cond b 1 0) e ∙ add-zero (occurs alike k xs)
+
+-- a list no longer than t is its latest t
+pub latest-all : {K : Type 0} (t : ℕ) (xs : List K) → length xs ≤ t → latest t xs ≡ xs
+latest-all t xs l = let z : length xs - t ≡ 0 = omega arith in rw z refl
+
+pub true-count-all : {K : Type 0} (alike : K → K → Bool) (t : ℕ) (k : K) (xs : List K) → length xs ≤ t → true-count alike t k xs ≡ occurs alike k xs
+true-count-all alike t k xs l = ap (occurs alike k) (latest-all t xs l)
+
+-- a key held at no place below n is not held at any
+pub held-nowhere : {K : Type 0} (alike : K → K → Bool) (held : ℕ → Option K) (k : K) (n : ℕ) → held-below alike held k n ≡ false → (i : ℕ) → i < n → holds alike k (held i) ≡ false
+held-nowhere alike held k zero e i l = absurd (omega arith)
+held-nowhere alike held k (suc n) e i l =
+    let parts = or-parts (holds alike k (held n)) (held-below alike held k n) e in
+    ⊎-elim
+    (λ (h : i < n). held-nowhere alike held k n (parts .1) i h)
+    (λ (h : n ≤ i). let z : i ≡ n = omega arith in rw z (parts .0))
+    (cases-lt i n)

@@ -24,10 +24,10 @@ holds-true false h = let z : _≡_ {A = ℕ} 0 1 = cc in absurd (omega arith)
 -- the laws of a kind of key make its sameness an equivalence
 pub same-of : {K : Type 0} (alike : K → K → Bool) → ((a : K) → T (alike a a)) → ((a b : K) → T (alike a b) → T (alike b a)) → ((a b c : K) → T (alike a b) → T (alike b c) → T (alike a c)) → Same alike
 same-of alike x y z = record {
-    reflexive = λ a. is-true (alike a a) (x a);
-    symmetric = λ a b h. is-true (alike b a) (y a b (holds-true (alike a b) h));
-    transitive = λ a b c h i. is-true (alike a c) (z a b c (holds-true (alike a b) h) (holds-true (alike b c) i));
-  }
+  reflexive = λ a. is-true (alike a a) (x a);
+  symmetric = λ a b h. is-true (alike b a) (y a b (holds-true (alike a b) h));
+  transitive = λ a b c h i. is-true (alike a c) (z a b c (holds-true (alike a b) h) (holds-true (alike b c) i));
+}
 
 module _ {K : Type 0} (alike : K → K → Bool) (law : Same alike) where
   -- keys that are the same are the same as the same keys
@@ -36,9 +36,9 @@ module _ {K : Type 0} (alike : K → K → Bool) (law : Same alike) where
       ⊎-elim
       (λ (t : alike a j ≡ true). t ∙ sym (law .transitive b a j (law .symmetric a b e) t))
       (λ (f : alike a j ≡ false). ⊎-elim
-        (λ (t : alike b j ≡ true). absurd (both-ways (alike a j) f (law .transitive a b j e t)))
-        (λ (g : alike b j ≡ false). f ∙ sym g)
-        (cases-bool (alike b j)))
+      (λ (t : alike b j ≡ true). absurd (both-ways (alike a j) f (law .transitive a b j e t)))
+      (λ (g : alike b j ≡ false). f ∙ sym g)
+      (cases-bool (alike b j)))
       (cases-bool (alike a j))
 
   pub unlike : (a b : K) → alike a b ≡ false → alike b a ≡ false

@@ -24,17 +24,27 @@ pub trait Tally {
     // Which arrival lists, oldest first, the tally vouches for.
     ghost vouches: { Self → List Self·Key → Type 0 };
 
+    // Whether the tally was opened within the limits of its plan. Every call keeps that.
+    ghost planned: { Self → Type 0 };
+
     // What its queries answer, as functions of the tally alone: the arrivals noted since the
     // latest clear (n), how many of the latest are counted (the reach), the ends of a key's range,
     // how wide a range can be, a high end for keys held nowhere (the ceiling), how many places
     // there are, and the key held at each.
     ghost noted: { Self → ℕ };
+
     ghost reaches: { Self → ℕ };
+
     ghost low: { Self → Self·Key → ℕ };
+
     ghost high: { Self → Self·Key → ℕ };
+
     ghost wide: { Self → ℕ };
+
     ghost top: { Self → ℕ };
+
     ghost spots: { Self → ℕ };
+
     ghost held: { Self → ℕ → Option Self·Key };
 
     // n: every list vouched for has this length.
@@ -65,7 +75,7 @@ pub trait Tally {
 
     fn places(&self) -> usize
         ensures value { λ r. ⌜ r ≡ spots (now (self .entry)) ⌝ }
-        ensures few { λ r. ⌜ ((xs : List Self·Key) → vouches (now (self .entry)) xs → r ≤ 65536) ⌝ };
+        ensures few { λ r. ⌜ (planned (now (self .entry)) → r ≤ 65536) ⌝ };
 
     // The key held at a place, counting from 0, if there is one; none past the last place.
     fn key_at(&self, place: usize) -> Option<Self::Key>
@@ -76,11 +86,13 @@ pub trait Tally {
     // 100,000,000, and then the tally is as it was.
     fn note(&mut self, key: Self::Key) -> Result<(), Refusal>
         ensures answer { λ r. ⌜ told (λ u. u) r ≡ cond (eqb (noted (now (self .entry))) most-arrivals) (Err (number-of RunFull)) (Ok tt) ⌝ }
+        ensures plan { λ _. ⌜ (planned (now (self .entry)) → planned (now (self .exit))) ⌝ }
         ensures counted { λ r. ⌜ ((xs : List Self·Key) → vouches (now (self .entry)) xs → length xs ≡ noted (now (self .entry))) ⌝ }
         ensures after { λ r. ⌜ Cases r (λ _. (noted (now (self .exit)) ≡ noted (now (self .entry)) + 1) × ((xs : List Self·Key) → vouches (now (self .entry)) xs → vouches (now (self .exit)) (xs ++ (key ∷ [])))) (λ _. now (self .exit) ≡ now (self .entry)) ⌝ };
 
     // Vouches for the empty list from now on.
     fn clear(&mut self)
+        ensures plan { λ _. ⌜ (planned (now (self .entry)) → planned (now (self .exit))) ⌝ }
         ensures counted { λ _. ⌜ noted (now (self .exit)) ≡ 0 ⌝ }
         ensures after { λ _. ⌜ vouches (now (self .exit)) [] ⌝ };
 }

@@ -1,0 +1,8 @@
+use Rattle.cells.proofs.Fills.{fill-next, fill-end}
+use Rattle.cells.proofs.each.free_all.Needs as need
+
+pub loop-c-again : need.loop-c-again
+loop-c-again g c = fill-next _ (c .args .cells .now) (c .loop-c .cells) (c .loop-c .c-index) (c .loop-c-test .taken) (c .loop-c .inv)
+
+pub returns : need.returns
+returns g c = fill-end _ (c .args .cells .now) (c .loop-c .cells) (c .loop-c .c-index) (c .loop-c .kept .c-index-end) (c .loop-c-test .left) (c .loop-c .inv)
