@@ -59,6 +59,9 @@ module _ {K R X : Type 0} (alike : K → K → Bool) (reads : R → Option K) wh
       let m = level-below alike reads cs level n xs v in
       record { from = rw all (o .0); upto = rw all (o .1); bounded = omega arith }
 
+  pub contains-pair : (cs : List (Cell R X)) (level : ℕ) (k : K) (both : ℕ × ℕ) → both ≡ ends (of-key alike reads k) level cs → (t n : ℕ) (xs : List K) → n ≤ t → Vouched alike reads cs level n xs → Contains alike t k xs (both .0) (both .1)
+  contains-pair cs level k both e t n xs le v = rw e (contains cs level n xs v k t le)
+
   -- the level is at most n/(k + 1)
   pub level-share : (cs : List (Cell R X)) (level n : ℕ) (xs : List K) → Vouched alike reads cs level n xs → level ≤ n / (length cs + 1)
   level-share cs level n xs v =

@@ -1,5 +1,5 @@
 -- free cells at level 0 are where the empty run leads
-use Prim.Native.Nat.{ℕ, zero, suc, _+_, _*_}
+use Prim.Native.Nat.{ℕ, zero, suc, _+_, _*_, zero-le}
 use lib.ListN.{length, replicate}
 use mathlib.Core.Bool.{Bool}
 use mathlib.Core.List.{List, [], _∷_, List·Permᴰ, List·Permᴰ·nil}
@@ -45,6 +45,7 @@ module _ {K R : Type 0} (X : Type 0) (alike : K → K → Bool) (reads : R → O
   cleared-ran m ds e = rw e (record {
     vouched = cleared-vouches m (free m) refl;
     total = rw (counters-free m, mul-zero (length (free m) + 1)) (omega arith);
+    share = zero-le;
     same-counters = keys-free m;
     same-decrements = refl;
   })

@@ -20,6 +20,7 @@ use Rattle.cells.specs.Vouched.{Absent, Ran, Sound, Vouched, counted-keys, cou
 use Rattle.cells.specs.declared.cell.Cell.{Cell}
 use Rattle.cells.specs.declared.cell.Cell.the-variants.{Free, Held}
 use Rattle.cells.specs.declared.cell.Slot.{Slot}
+use Rattle.cells.proofs.Bounds.{level-share}
 use Rattle.cells.proofs.ByRule.{by-rule}
 use Rattle.cells.proofs.Changed.{changed, first-none, length-changed}
 use Rattle.cells.proofs.Counters.{counters-counted, counters-entered, counters-raised}
@@ -118,8 +119,10 @@ module _ {K R X : Type 0} (alike : K → K → Bool) (reads : R → Option K) (l
       (λ f e. rw up (raise-exact (first-none of cs 0 f) e v)) in
       let step : misra-gries alike (length ds) (xs ++ key ∷ []) ≡ with-arrival alike (length cs) summary key =
       ap (λ (k : ℕ). misra-gries alike k (xs ++ key ∷ [])) (exact .size) ∙ folded-push (with-arrival alike (length cs)) (record { entries = []; decrements = 0 }) xs key in
+      let vouches = note-kept alike reads law key r restored x cs level n xs few (v .vouched) in
       record {
-        vouched = note-kept alike reads law key r restored x cs level n xs few (v .vouched);
+        vouched = vouches;
+        share = level-share alike reads ds lv (n + 1) (xs ++ key ∷ []) vouches;
         total = exact .total ∙ ap (λ (k : ℕ). (k + 1) * lv + counters lv ds) (sym (exact .size));
         same-counters = rw step (exact .same-counters);
         same-decrements = exact .same-decrements ∙ ap (λ (s : Summary K). s .decrements) (sym step);

@@ -1,4 +1,4 @@
-use Prim.Native.Nat.{ℕ, _+_, _-_, _*_, _<_, _≤_}
+use Prim.Native.Nat.{ℕ, _+_, _-_, _*_, _/_, _<_, _≤_}
 use lib.ListN.{length}
 use mathlib.Core.Bool.{Bool, false}
 use mathlib.Core.List.{List, [], _∷_, List·Permᴰ}
@@ -63,10 +63,12 @@ module _ {K R X : Type 0} (alike : K → K → Bool) (reads : R → Option K) wh
   counted-keys level (Free ∷ cs) = counted-keys level cs
   counted-keys level (Held s ∷ cs) = with-key (s .count + s .mark - level) (reads (s .key)) (counted-keys level cs)
 
-  -- cells at a level are where a whole run of arrivals leads: they vouch for it, n is (k + 1) × level and the counters, and keys
-  -- and counters are those of Misra and Gries, in whatever order, with the level for the number of decrements
+  -- k cells at a level are where a whole run of n arrivals leads: they vouch for it; n is (k + 1) × level and the counters, so
+  -- that the level is at most n/(k + 1); and keys and counters are those of Misra and Gries, in whatever order, with the level
+  -- for the number of decrements
   pub record Ran (cs : List (Cell R X)) (level n : ℕ) (xs : List K) : Type 0 where
     pub vouched : Vouched cs level n xs
     pub total : n ≡ (length cs + 1) * level + counters level cs
+    pub share : level ≤ n / (length cs + 1)
     pub same-counters : List·Permᴰ (counted-keys level cs) (misra-gries alike (length cs) xs .entries)
     pub same-decrements : level ≡ misra-gries alike (length cs) xs .decrements

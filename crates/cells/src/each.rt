@@ -21,8 +21,9 @@ pub(crate) fn wear<R: Copy, X: Copy>(cells: &mut [Cell<R, X>], level: u32)
     }
 }
 
-fn free_all<R: Copy, X: Copy>(cells: &mut [Cell<R, X>])
-    ensures { λ _. ⌜ now (cells .exit) ≡ emptied (now (cells .entry)) ⌝ }
+fn free_all<K: Key, X: Copy>(cells: &mut [Cell<K::Record, X>])
+    ensures cells { λ _. ⌜ now (cells .exit) ≡ emptied (now (cells .entry)) ⌝ }
+    ensures ran { λ _. ⌜ Ran (K·Key .alike) (K·Key .reads) (now (cells .exit)) 0 0 [] ⌝ }
 {
     for c in cells.iter_mut() {
         *c = Cell::Free;
@@ -34,11 +35,12 @@ pub fn empty_cells<K: Key, X: Copy>(cells: &mut [Cell<K::Record, X>])
     ensures cells { λ _. ⌜ now (cells .exit) ≡ emptied (now (cells .entry)) ⌝ }
     ensures ran { λ _. ⌜ Ran (K·Key .alike) (K·Key .reads) (now (cells .exit)) 0 0 [] ⌝ }
 {
-    free_all(cells);
+    free_all::<K, X>(cells);
 }
 
 fn find_ends<K: Key, X: Copy>(cells: &[Cell<K::Record, X>], level: u32, key: K) -> (u32, u32)
-    ensures { λ r. ⌜ r ≡ ends (of-key (K·Key .alike) (K·Key .reads) key) level (now (cells .entry)) ⌝ }
+    ensures value { λ r. ⌜ r ≡ ends (of-key (K·Key .alike) (K·Key .reads) key) level (now (cells .entry)) ⌝ }
+    ensures truth { λ r. ⌜ ((t n : ℕ) (xs : List K) → n ≤ t → Vouched (K·Key .alike) (K·Key .reads) (now (cells .entry)) level n xs → Contains (K·Key .alike) t key xs (r .0) (r .1)) ⌝ }
 {
     for c in cells {
         if let Some(both) = ends_in(*c, key) {

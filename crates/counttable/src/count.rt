@@ -1,4 +1,4 @@
-ghost use Prim.Native.Nat.{ℕ, _+_, _/_, _<_, _≤_, min};
+ghost use Prim.Native.Nat.{ℕ, _+_, _<_, _≤_, min};
 ghost use denote.Ref.{name};
 ghost use lib.Dec.{ltb};
 ghost use lib.ListN.{length};
@@ -18,6 +18,7 @@ use cells::each::range_in;
 use cells::note::note_in;
 use keys::key::Key;
 use keys::refusal::Refusal;
+use tally::MOST_ARRIVALS;
 
 impl<'a, K: Key> CountTable<'a, K> {
     // Counts an arrival by the rule that it meets.
@@ -48,7 +49,7 @@ impl<'a, K: Key> CountTable<'a, K> {
         ensures ran { λ r. ⌜ Cases r (λ _. (xs : List K) → Ran (K·Key .alike) (K·Key .reads) (now (now (self .entry) .cells)) (now (self .entry) .level) (now (self .entry) .noted) xs → Ran (K·Key .alike) (K·Key .reads) (now (now (self .exit) .cells)) (now (self .exit) .level) (now (self .exit) .noted) (xs ++ (key ∷ []))) (λ _. now (self .exit) ≡ now (self .entry)) ⌝ }
         ensures lender { λ _. ⌜ name (now (self .exit) .cells) ≡ name (now (self .entry) .cells) ⌝ }
     {
-        if self.noted >= 100_000_000 {
+        if self.noted >= MOST_ARRIVALS {
             return Err(Refusal::RunFull);
         }
         self.add(key);
@@ -56,20 +57,18 @@ impl<'a, K: Key> CountTable<'a, K> {
     }
 
     // The range of a key: from its count to its count and mark, or from 0 to the level.
-    pub fn ends(&self, key: K) -> (u32, u32)
+    pub(crate) fn ends(&self, key: K) -> (u32, u32)
         ensures value { λ r. ⌜ r ≡ ends (of-key (K·Key .alike) (K·Key .reads) key) (now (self .entry) .level) (now (now (self .entry) .cells)) ⌝ }
         ensures truth { λ r. ⌜ ((xs : List K) → Vouched (K·Key .alike) (K·Key .reads) (now (now (self .entry) .cells)) (now (self .entry) .level) (now (self .entry) .noted) xs → Contains (K·Key .alike) (min (min (now (self .entry) .noted) most-arrivals) most-arrivals) key xs (r .0) (r .1)) ⌝ }
     {
         range_in(self.cells, self.level, key)
     }
 
-    // The level: no range is wider, no key held at no place has a higher end, and it is at most
-    // n/(k + 1).
-    pub fn level(&self) -> u32
+    // The level: no range is wider, and no key held at no place has a higher end.
+    pub(crate) fn level(&self) -> u32
         ensures value { λ r. ⌜ r ≡ now (self .entry) .level ⌝ }
         ensures narrow { λ r. ⌜ ((xs : List K) → Vouched (K·Key .alike) (K·Key .reads) (now (now (self .entry) .cells)) (now (self .entry) .level) (now (self .entry) .noted) xs → (k : K) → ends (of-key (K·Key .alike) (K·Key .reads) k) (now (self .entry) .level) (now (now (self .entry) .cells)) .1 ≤ ends (of-key (K·Key .alike) (K·Key .reads) k) (now (self .entry) .level) (now (now (self .entry) .cells)) .0 + r) ⌝ }
         ensures missed { λ r. ⌜ ((xs : List K) → Vouched (K·Key .alike) (K·Key .reads) (now (now (self .entry) .cells)) (now (self .entry) .level) (now (self .entry) .noted) xs → (k : K) → held-below (K·Key .alike) (key-at (K·Key .reads) (now (now (self .entry) .cells))) k (length (now (now (self .entry) .cells))) ≡ false → (ends (of-key (K·Key .alike) (K·Key .reads) k) (now (self .entry) .level) (now (now (self .entry) .cells)) .1 ≤ r) × (true-count (K·Key .alike) (min (min (now (self .entry) .noted) most-arrivals) most-arrivals) k xs ≤ r)) ⌝ }
-        ensures share { λ r. ⌜ ((xs : List K) → Vouched (K·Key .alike) (K·Key .reads) (now (now (self .entry) .cells)) (now (self .entry) .level) (now (self .entry) .noted) xs → r ≤ now (self .entry) .noted / (length (now (now (self .entry) .cells)) + 1)) ⌝ }
         ensures bounded { λ r. ⌜ ((xs : List K) → Vouched (K·Key .alike) (K·Key .reads) (now (now (self .entry) .cells)) (now (self .entry) .level) (now (self .entry) .noted) xs → r ≤ most-end) ⌝ }
     {
         self.level

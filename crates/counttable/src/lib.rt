@@ -3,3 +3,5 @@ pub mod count;
 pub mod open;
 pub mod table;
 pub mod tally;
+#[cfg(test)]
+mod tests;

@@ -11,7 +11,11 @@ use crate::table::CountTable;
 use cells::each::key_at;
 use keys::key::Key;
 use keys::refusal::Refusal;
+use tally::MOST_ARRIVALS;
 use tally::Tally;
+
+// A table counts over the whole run.
+const REACH: u32 = MOST_ARRIVALS;
 
 // The count table as a tally: its reach is the whole run.
 pub impl<'a, K: Key> Tally for CountTable<'a, K> as CountTableTally {
@@ -38,11 +42,11 @@ pub impl<'a, K: Key> Tally for CountTable<'a, K> as CountTableTally {
     ghost held = { λ t. key-at (K·Key .reads) (now (t .cells)) };
 
     fn arrivals(&self) -> u32 {
-        self.noted.min(100_000_000)
+        self.noted.min(MOST_ARRIVALS)
     }
 
     fn reach(&self) -> u32 {
-        100_000_000
+        REACH
     }
 
     fn range(&self, key: K) -> (u32, u32) {
@@ -54,7 +58,7 @@ pub impl<'a, K: Key> Tally for CountTable<'a, K> as CountTableTally {
     }
 
     fn ceiling(&self) -> u32 {
-        self.level()
+        CountTable::level(self)
     }
 
     fn places(&self) -> usize {

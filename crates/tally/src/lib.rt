@@ -17,6 +17,9 @@ ghost use Rattle.tally.specs.Owed.{Contains, held-below, most-arrivals, most-e
 use keys::key::Key;
 use keys::refusal::Refusal;
 
+// The most arrivals that a tally counts between clears.
+pub const MOST_ARRIVALS: u32 = 100_000_000;
+
 pub trait Tally {
     // The kind of key that arrives, and by which all is asked and answered.
     type Key: Key;

@@ -1,7 +1,7 @@
 use Prim.Native.Nat.{_≤_, min}
 use mathlib.Core.Path.{refl}
 use native.Mathlib.Omega.{arith}
-use Rattle.cells.proofs.Bounds.{contains, level-share, missed, narrow}
+use Rattle.cells.proofs.Bounds.{contains, missed, narrow}
 use Rattle.cells.proofs.Kept.{level-below}
 use Rattle.cells.specs.Cells.{of-key}
 use Rattle.tally.specs.Owed.{most-arrivals}
@@ -23,6 +23,5 @@ returns g c =
           let l : n ≤ min (min n most-arrivals) most-arrivals = omega arith in
           let h = rw e at (contains alike reads cs (t .level) n xs v k (min (min n most-arrivals) most-arrivals) l) in
           rw e (omega arith, h .upto);
-      share = λ xs v. level-share alike reads cs (t .level) n xs v;
       bounded = λ xs v. let l = level-below alike reads cs (t .level) n xs v in let f = v .few in omega arith;
     }
