@@ -16,13 +16,14 @@ use Rattle.std.proofs.shelf.Bits.{le-div}
 use Rattle.tally.proofs.Counts.{held-nowhere, true-count-all}
 use Rattle.tally.specs.Arrivals.{occurs, true-count}
 use Rattle.tally.specs.Owed.{Contains, held-below, holds}
-use Rattle.cells.specs.Cells.{capped, cell-ends, ends, key-at, key-in, of-key, taken-by}
+use Rattle.cells.specs.Cells.{capped, cell-ends, ends, key-at, key-in, taken-by}
+use Rattle.keys.specs.OfKey.{of-key}
 use Rattle.cells.specs.Vouched.{Absent, Live, Sound, Vouched, counters}
 use Rattle.cells.specs.declared.cell.Cell.{Cell}
 use Rattle.cells.specs.declared.cell.Cell.the-variants.{Free, Held}
 use Rattle.cells.specs.declared.cell.Slot.{Slot}
 use Rattle.cells.proofs.Kept.{level-below}
-use Rattle.cells.proofs.Options.{cases-option}
+use Rattle.tally.proofs.Options.{cases-option}
 use Rattle.cells.proofs.Ranges.{ends-absent}
 
 module _ {K R X : Type 0} (alike : K → K → Bool) (reads : R → Option K) where

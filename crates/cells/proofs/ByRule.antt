@@ -16,7 +16,7 @@ use Rattle.cells.specs.declared.cell.Cell.{Cell}
 use Rattle.cells.specs.declared.cell.Cell.the-variants.{Free, Held}
 use Rattle.cells.specs.declared.cell.Slot.{Slot}
 use Rattle.cells.proofs.Changed.{changed, first-set}
-use Rattle.cells.proofs.Options.{cases-option}
+use Rattle.tally.proofs.Options.{cases-option}
 
 pub by-rule : {R X : Type 0} (P : List (Cell R X) → ℕ → Type 0) (is : R → Bool) (level : ℕ) (r : R) (x : X) (cs : List (Cell R X))
     → ((i : ℕ) → first (taken-by is) 0 cs ≡ Some i → P (changed (taken-by is) counted cs) level)

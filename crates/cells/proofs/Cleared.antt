@@ -7,7 +7,8 @@ use mathlib.Core.Path.{_≡_, refl}
 use native.Mathlib.Nat.{mul-zero}
 use native.Mathlib.Omega.{arith}
 use Rattle.std.specs.declared.option.Option.{Option}
-use Rattle.cells.specs.Cells.{ends, of-key}
+use Rattle.cells.specs.Cells.{ends}
+use Rattle.keys.specs.OfKey.{of-key}
 use Rattle.cells.specs.Vouched.{Ran, Sound, Vouched, counted-keys, counters}
 use Rattle.cells.specs.declared.cell.Cell.{Cell}
 use Rattle.cells.specs.declared.cell.Cell.the-variants.{Free}

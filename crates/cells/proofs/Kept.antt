@@ -16,7 +16,8 @@ use Rattle.std.proofs.shelf.Lists.{length-push, length-map}
 use Rattle.tally.proofs.Counts.{occurs-same, occurs-other}
 use Rattle.tally.proofs.Sameness.{Same}
 use Rattle.tally.specs.Arrivals.{occurs}
-use Rattle.cells.specs.Cells.{capped, cells-after, counted, ends, entered, first, is-free, level-after, of-key, rule-for, taken-by, worn}
+use Rattle.cells.specs.Cells.{capped, cells-after, counted, ends, entered, first, is-free, level-after, rule-for, taken-by, worn}
+use Rattle.keys.specs.OfKey.{of-key}
 use Rattle.cells.specs.Vouched.{Absent, Live, Sound, Vouched, counters}
 use Rattle.cells.specs.declared.cell.Cell.{Cell}
 use Rattle.cells.specs.declared.cell.Cell.the-variants.{Free, Held}
@@ -24,7 +25,7 @@ use Rattle.cells.specs.declared.cell.Slot.{Slot}
 use Rattle.cells.proofs.ByRule.{by-rule}
 use Rattle.cells.proofs.Changed.{changed, first-none, length-changed}
 use Rattle.cells.proofs.Counters.{counters-counted, counters-entered, counters-raised}
-use Rattle.cells.proofs.OfKey.{agree, apart, of-key-at}
+use Rattle.tally.proofs.OfKey.{agree, apart, of-key-at}
 use Rattle.cells.proofs.Ranges.{absent-worn, count-other, count-same, ends-absent, enter-other, enter-same, raise-other}
 use Rattle.cells.proofs.Sounds.{absent-agree, sound-counted, sound-entered, sound-once, sound-raised}
 

@@ -8,8 +8,6 @@ pub mod Fills
 pub mod Firsts
 pub mod Kept
 pub mod Literature
-pub mod OfKey
-pub mod Options
 pub mod Perms
 pub mod Ranges
 pub mod Runs

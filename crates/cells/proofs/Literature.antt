@@ -12,15 +12,16 @@ use Rattle.std.specs.Options.{valueOr}
 use Rattle.std.specs.declared.option.Option.{Option}
 use Rattle.std.specs.declared.option.Option.the-variants.{Some, None}
 use Rattle.tally.proofs.Sameness.{Same}
-use Rattle.cells.specs.Cells.{capped, counted, first, is-free, of-key, taken-by, worn}
+use Rattle.cells.specs.Cells.{capped, counted, first, is-free, taken-by, worn}
+use Rattle.keys.specs.OfKey.{of-key}
 use Rattle.cells.specs.MisraGries.{decremented, has-counter, incremented, less-one, not-zero}
 use Rattle.cells.specs.Vouched.{Absent, Live, Sound, counted-keys, with-key}
 use Rattle.cells.specs.declared.cell.Cell.{Cell}
 use Rattle.cells.specs.declared.cell.Cell.the-variants.{Free, Held}
 use Rattle.cells.specs.declared.cell.Slot.{Slot}
 use Rattle.cells.proofs.Changed.{changed}
-use Rattle.cells.proofs.OfKey.{agree, of-key-at}
-use Rattle.cells.proofs.Options.{cases-option}
+use Rattle.tally.proofs.OfKey.{agree, of-key-at}
+use Rattle.tally.proofs.Options.{cases-option}
 use Rattle.cells.proofs.Sounds.{absent-agree}
 
 module _ {K R X : Type 0} (alike : K → K → Bool) (reads : R → Option K) (law : Same alike) where

@@ -11,7 +11,8 @@ use Rattle.std.proofs.shelf.Tests.{cases-bool, both-ways, eqb-true, eqb-false}
 use Rattle.std.specs.Options.{valueOr}
 use Rattle.std.specs.declared.option.Option.{Option}
 use Rattle.std.specs.declared.option.Option.the-variants.{Some, None}
-use Rattle.cells.specs.Cells.{capped, cell-ends, counted, ends, first, is-free, of-key, taken-by, worn}
+use Rattle.cells.specs.Cells.{capped, cell-ends, counted, ends, first, is-free, taken-by, worn}
+use Rattle.keys.specs.OfKey.{of-key}
 use Rattle.cells.specs.Vouched.{Absent, Live, Sound}
 use Rattle.cells.specs.declared.cell.Cell.{Cell}
 use Rattle.cells.specs.declared.cell.Cell.the-variants.{Free, Held}

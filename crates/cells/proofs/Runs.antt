@@ -14,7 +14,8 @@ use native.Mathlib.Nat.{mul-add}
 use Rattle.std.proofs.shelf.Lists.{length-map}
 use Rattle.std.proofs.shelf.Sums.{folded-push}
 use Rattle.tally.proofs.Sameness.{Same}
-use Rattle.cells.specs.Cells.{capped, cells-after, counted, entered, first, is-free, level-after, of-key, rule-for, taken-by, worn}
+use Rattle.cells.specs.Cells.{capped, cells-after, counted, entered, first, is-free, level-after, rule-for, taken-by, worn}
+use Rattle.keys.specs.OfKey.{of-key}
 use Rattle.cells.specs.MisraGries.{Summary, decremented, has-counter, incremented, misra-gries, not-zero, less-one, with-arrival}
 use Rattle.cells.specs.Vouched.{Absent, Ran, Sound, Vouched, counted-keys, counters}
 use Rattle.cells.specs.declared.cell.Cell.{Cell}

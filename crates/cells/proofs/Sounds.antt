@@ -12,13 +12,14 @@ use Rattle.std.specs.Options.{valueOr}
 use Rattle.std.specs.declared.option.Option.{Option}
 use Rattle.std.specs.declared.option.Option.the-variants.{Some, None}
 use Rattle.tally.proofs.Sameness.{Same, unlike}
-use Rattle.cells.specs.Cells.{counted, is-free, of-key, taken-by, worn}
+use Rattle.cells.specs.Cells.{counted, is-free, taken-by, worn}
+use Rattle.keys.specs.OfKey.{of-key}
 use Rattle.cells.specs.Vouched.{Absent, Live, Sound}
 use Rattle.cells.specs.declared.cell.Cell.{Cell}
 use Rattle.cells.specs.declared.cell.Cell.the-variants.{Free, Held}
 use Rattle.cells.specs.declared.cell.Slot.{Slot}
 use Rattle.cells.proofs.Changed.{changed}
-use Rattle.cells.proofs.OfKey.{agree, of-key-at}
+use Rattle.tally.proofs.OfKey.{agree, of-key-at}
 use Rattle.cells.proofs.Ranges.{Once, absent-worn}
 
 pub absent-agree : {R X : Type 0} (is was : R → Bool) → ((r : R) → is r ≡ was r) → (cs : List (Cell R X)) → Absent was cs → Absent is cs

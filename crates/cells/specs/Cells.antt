@@ -12,10 +12,6 @@ use Rattle.cells.specs.declared.cell.Slot.{Slot}
 use Rattle.cells.specs.declared.rule.Rule.{Rule}
 use Rattle.cells.specs.declared.rule.Rule.the-variants.{Count, Enter, Raise}
 
--- whether a record is that of a key, by the sameness of its kind
-abbrev pub of-key : {K R : Type 0} → (K → K → Bool) → (R → Option K) → K → R → Bool
-of-key alike reads k r = elim (reads r) [ Some j ↦ alike k j | None ↦ false ]
-
 -- a sum as far as 32 bits go; a table that vouches for a list never gets there
 abbrev pub capped : ℕ → ℕ
 capped n = min n 4294967295

@@ -8,7 +8,8 @@ use Rattle.std.specs.declared.option.Option.the-variants.{Some, None}
 use Rattle.std.specs.shelf.Lists.{sumBy}
 use Rattle.tally.specs.Arrivals.{occurs}
 use Rattle.tally.specs.Owed.{most-arrivals}
-use Rattle.cells.specs.Cells.{ends, of-key, taken-by}
+use Rattle.cells.specs.Cells.{ends, taken-by}
+use Rattle.keys.specs.OfKey.{of-key}
 use Rattle.cells.specs.MisraGries.{misra-gries}
 use Rattle.cells.specs.declared.cell.Cell.{Cell}
 use Rattle.cells.specs.declared.cell.Cell.the-variants.{Free, Held}

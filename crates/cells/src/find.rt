@@ -1,7 +1,8 @@
 ghost use Prim.Native.Nat.{_<_};
 ghost use lib.ListN.{length};
 ghost use mathlib.Core.Path.{_≡_};
-ghost use Rattle.cells.specs.Cells.{first, is-free, of-key, rule-for, taken-by};
+ghost use Rattle.cells.specs.Cells.{first, is-free, rule-for, taken-by};
+ghost use Rattle.keys.specs.OfKey.{of-key};
 ghost use Rattle.cells.specs.Rules.{Within};
 ghost use Rattle.std.specs.Slices.{found};
 use crate::cell::Cell;

@@ -1,7 +1,8 @@
 ghost use Prim.Native.Nat.{ℕ, _+_, _<_};
 ghost use mathlib.Core.List.{List, [], _++_, _∷_};
 ghost use mathlib.Core.Path.{_≡_};
-ghost use Rattle.cells.specs.Cells.{cells-after, level-after, of-key, rule-for};
+ghost use Rattle.cells.specs.Cells.{cells-after, level-after, rule-for};
+ghost use Rattle.keys.specs.OfKey.{of-key};
 ghost use Rattle.cells.specs.Vouched.{Ran, Vouched};
 ghost use Rattle.tally.specs.Owed.{most-arrivals};
 use crate::cell::Cell;

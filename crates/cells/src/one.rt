@@ -1,18 +1,10 @@
 ghost use mathlib.Core.Path.{_≡_};
-ghost use Rattle.cells.specs.Cells.{cell-ends, counted, is-free, key-in, of-key, taken-by, worn};
+ghost use Rattle.cells.specs.Cells.{cell-ends, counted, is-free, key-in, taken-by, worn};
+ghost use Rattle.keys.specs.OfKey.{of-key};
 use crate::cell::Cell;
 use crate::cell::Slot;
 use keys::key::Key;
-
-// Whether a record is that of a key.
-fn same_key<K: Key>(at: K::Record, key: K) -> bool
-    ensures { λ r. ⌜ r ≡ of-key (K·Key .alike) (K·Key .reads) key at ⌝ }
-{
-    match K::of_record(at) {
-        Some(held) => key.same(held),
-        None => false,
-    }
-}
+use keys::key::same_key;
 
 // Whether a cell is taken by a key.
 pub(crate) fn is_taken_by<K: Key, X: Copy>(cell: Cell<K::Record, X>, key: K) -> bool

@@ -3,6 +3,7 @@ ghost use lib.Dec.{T};
 ghost use mathlib.Core.Bool.{Bool};
 ghost use mathlib.Core.List.{List};
 ghost use mathlib.Core.Path.{_≡_};
+ghost use Rattle.keys.specs.OfKey.{of-key};
 ghost use Rattle.std.specs.declared.option.Option.{Option};
 ghost use Rattle.std.specs.declared.option.Option.the-variants.{Some};
 
@@ -46,4 +47,14 @@ pub trait Key: Copy {
 
     fn of_record(at: Self::Record) -> Option<Self>
         ensures { λ r. ⌜ r ≡ reads at ⌝ };
+}
+
+// Whether a record is that of a key.
+pub fn same_key<K: Key>(at: K::Record, key: K) -> bool
+    ensures { λ r. ⌜ r ≡ of-key (K·Key .alike) (K·Key .reads) key at ⌝ }
+{
+    match K::of_record(at) {
+        Some(held) => key.same(held),
+        None => false,
+    }
 }

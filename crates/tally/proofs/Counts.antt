@@ -7,7 +7,8 @@ use mathlib.Core.Logic.{⊎-elim}
 use mathlib.Core.Path.{_≡_, refl, ap, _∙_}
 use native.Mathlib.Nat.{add-zero}
 use native.Mathlib.Omega.{arith}
-use Rattle.std.proofs.shelf.Sums.{sumBy-push}
+use Rattle.std.proofs.shelf.Lists.{length-drop}
+use Rattle.std.proofs.shelf.Sums.{countBy-le-length, sumBy-push}
 use Rattle.std.proofs.shelf.Tests.{cases-lt, or-parts}
 use Rattle.std.specs.declared.option.Option.{Option}
 use Rattle.tally.specs.Arrivals.{latest, occurs, true-count}
@@ -39,3 +40,10 @@ held-nowhere alike held k (suc n) e i l =
     (λ (h : i < n). held-nowhere alike held k n (parts .1) i h)
     (λ (h : n ≤ i). let z : i ≡ n = omega arith in rw z (parts .0))
     (cases-lt i n)
+
+-- no key stands in the latest t arrivals more than t times
+pub true-count-below : {K : Type 0} (alike : K → K → Bool) (t : ℕ) (k : K) (xs : List K) → true-count alike t k xs ≤ t
+true-count-below alike t k xs =
+    let l = countBy-le-length (alike k) (latest t xs) in
+    let d = length-drop (length xs - t) xs in
+    omega arith

@@ -1,2 +1,4 @@
 pub mod Counts
+pub mod OfKey
+pub mod Options
 pub mod Sameness

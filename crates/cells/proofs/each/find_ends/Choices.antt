@@ -1,6 +1,7 @@
 use mathlib.Core.Path.{_≡_}
 use lib.ListN.{drop}
-use Rattle.cells.specs.Cells.{ends, of-key}
+use Rattle.cells.specs.Cells.{ends}
+use Rattle.keys.specs.OfKey.{of-key}
 use Rattle.cells.proofs.each.find_ends.Given as given
 
 abbrev pub Inv-loop-c : given.InvT-loop-c

@@ -1,6 +1,7 @@
 use mathlib.Core.Path.{_≡_}
 use lib.ListN.{drop}
-use Rattle.cells.specs.Cells.{first, taken-by, of-key}
+use Rattle.cells.specs.Cells.{first, taken-by}
+use Rattle.keys.specs.OfKey.{of-key}
 use Rattle.cells.proofs.find.find_key.Given as given
 
 abbrev pub Inv-loop-i : given.InvT-loop-i

@@ -3,7 +3,7 @@ use mathlib.Core.Path.{refl}
 use native.Mathlib.Omega.{arith}
 use Rattle.cells.proofs.Bounds.{contains, missed, narrow}
 use Rattle.cells.proofs.Kept.{level-below}
-use Rattle.cells.specs.Cells.{of-key}
+use Rattle.keys.specs.OfKey.{of-key}
 use Rattle.tally.specs.Owed.{most-arrivals}
 use Rattle.counttable.proofs.table.CountTable.level.Needs as need
 

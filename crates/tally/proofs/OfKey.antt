@@ -11,9 +11,9 @@ use Rattle.std.proofs.shelf.Tests.{cases-bool, both-ways, eqb-true, eqb-false}
 use Rattle.std.specs.Options.{valueOr}
 use Rattle.std.specs.declared.option.Option.{Option}
 use Rattle.std.specs.declared.option.Option.the-variants.{Some, None}
 use Rattle.tally.proofs.Sameness.{Same, alike-eq}
-use Rattle.cells.specs.Cells.{of-key}
-use Rattle.cells.proofs.Options.{cases-option}
+use Rattle.keys.specs.OfKey.{of-key}
+use Rattle.tally.proofs.Options.{cases-option}
 
 module _ {K R : Type 0} (alike : K → K → Bool) (reads : R → Option K) (law : Same alike) where
   pub of-key-at : (a j : K) (r : R) → reads r ≡ Some j → of-key alike reads a r ≡ alike a j

@@ -1,0 +1,3 @@
+// Layers over any tally; any pile of them is a tally.
+pub mod trim;
+mod trimmed;
