@@ -47,3 +47,10 @@ module _ {K : Type 0} (alike : K → K → Bool) (law : Same alike) where
       (λ (t : alike b a ≡ true). absurd (both-ways (alike a b) e (law .symmetric b a t)))
       (λ (f : alike b a ≡ false). f)
       (cases-bool (alike b a))
+
+  pub alike-turned : (a b : K) → alike a b ≡ alike b a
+  alike-turned a b =
+      ⊎-elim
+      (λ (t : alike a b ≡ true). t ∙ sym (law .symmetric a b t))
+      (λ (f : alike a b ≡ false). f ∙ sym (unlike a b f))
+      (cases-bool (alike a b))

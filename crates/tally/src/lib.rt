@@ -90,6 +90,7 @@ pub trait Tally {
     fn note(&mut self, key: Self::Key) -> Result<(), Refusal>
         ensures answer { λ r. ⌜ told (λ u. u) r ≡ cond (eqb (noted (now (self .entry))) most-arrivals) (Err (number-of RunFull)) (Ok tt) ⌝ }
         ensures plan { λ _. ⌜ (planned (now (self .entry)) → planned (now (self .exit))) ⌝ }
+        ensures few { λ _. ⌜ noted (now (self .entry)) ≤ most-arrivals ⌝ }
         ensures counted { λ r. ⌜ ((xs : List Self·Key) → vouches (now (self .entry)) xs → length xs ≡ noted (now (self .entry))) ⌝ }
         ensures after { λ r. ⌜ Cases r (λ _. (noted (now (self .exit)) ≡ noted (now (self .entry)) + 1) × ((xs : List Self·Key) → vouches (now (self .entry)) xs → vouches (now (self .exit)) (xs ++ (key ∷ [])))) (λ _. now (self .exit) ≡ now (self .entry)) ⌝ };
 
