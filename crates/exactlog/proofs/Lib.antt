@@ -1,0 +1,4 @@
+mod Back
+mod Counted
+mod Exact
+mod Kept
