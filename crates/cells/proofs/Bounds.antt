@@ -11,7 +11,7 @@ use Rattle.std.proofs.shelf.Tests.{cases-bool, both-ways, eqb-true, eqb-false}
 use Rattle.std.specs.Options.{valueOr}
 use Rattle.std.specs.declared.option.Option.{Option}
 use Rattle.std.specs.declared.option.Option.the-variants.{Some, None}
-use native.Mathlib.Nat.{mul-comm}
+use native.Mathlib.Nat.{add-mul, mul-comm}
 use Rattle.std.proofs.shelf.Bits.{le-div}
 use Rattle.tally.proofs.Counts.{held-nowhere, true-count-all}
 use Rattle.tally.specs.Arrivals.{occurs, true-count}
@@ -22,6 +22,7 @@ use Rattle.cells.specs.Vouched.{Absent, Live, Sound, Vouched, counters}
 use Rattle.cells.specs.declared.cell.Cell.{Cell}
 use Rattle.cells.specs.declared.cell.Cell.the-variants.{Free, Held}
 use Rattle.cells.specs.declared.cell.Slot.{Slot}
+use Rattle.cells.proofs.Counters.{counters-cons}
 use Rattle.cells.proofs.Kept.{level-below}
 use Rattle.tally.proofs.Options.{cases-option}
 use Rattle.cells.proofs.Ranges.{ends-absent}
@@ -48,6 +49,26 @@ module _ {K R X : Type 0} (alike : K → K → Bool) (reads : R → Option K) wh
       (λ (t : is (s .key) ≡ true). rw t (omega arith))
       (λ (t : is (s .key) ≡ false). rw t (high-below is level n cs (h .2)))
       (cases-bool (is (s .key)))
+
+  -- nor does it pass the level and the counters together
+  high-accounted : (is : R → Bool) (level n : ℕ) (cs : List (Cell R X)) → Sound alike reads level n cs → ends is level cs .1 ≤ level + counters level cs
+  high-accounted is level n [] h = omega arith
+  high-accounted is level n (Free ∷ cs) h = high-accounted is level n cs h
+  high-accounted is level n (Held s ∷ cs) h =
+      let l = h .1 in
+      let a = counters-cons level (Held s) cs in
+      ⊎-elim
+      (λ (t : is (s .key) ≡ true). rw t (omega arith))
+      (λ (t : is (s .key) ≡ false). let r = high-accounted is level n cs (h .2) in rw t (omega arith))
+      (cases-bool (is (s .key)))
+
+  -- so no high end passes n
+  pub high-covered : (is : R → Bool) (cs : List (Cell R X)) (level n : ℕ) (xs : List K) → Vouched alike reads cs level n xs → ends is level cs .1 ≤ n
+  high-covered is cs level n xs v =
+      let a = high-accounted is level n cs (v .sound) in
+      let b = add-mul (length cs) 1 level in
+      let w = v .covered in
+      omega arith
 
   -- a key's true count lies in its range
   pub contains : (cs : List (Cell R X)) (level n : ℕ) (xs : List K) → Vouched alike reads cs level n xs → (k : K) (t : ℕ) → n ≤ t → Contains alike t k xs (ends (of-key alike reads k) level cs .0) (ends (of-key alike reads k) level cs .1)

@@ -1,0 +1,5 @@
+mod Areas
+mod Reached
+mod Slots
+mod Stretches
+mod Turns
