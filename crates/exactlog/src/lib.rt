@@ -5,3 +5,5 @@ pub mod open;
 mod places;
 mod records;
 pub mod tally;
+#[cfg(test)]
+mod tests;

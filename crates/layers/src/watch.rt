@@ -39,6 +39,14 @@ fn grow(one_more: bool, seen: u32) -> u32
     }
 }
 
+// Whether the whole run is within reach.
+fn is_whole<T: Tally>(t: &T) -> bool
+    ensures value { λ r. ⌜ r ≡ leb (T·Tally .noted (now (t .entry))) (T·Tally .reaches (now (t .entry))) ⌝ }
+    ensures few { λ _. ⌜ T·Tally .noted (now (t .entry)) ≤ most-arrivals ⌝ }
+{
+    t.arrivals() <= t.reach()
+}
+
 // The ends of a range over those below.
 fn pick(watched: bool, whole: bool, seen: u32, below: (u32, u32)) -> (u32, u32)
     ensures { λ r. ⌜ r ≡ (low-of watched whole seen (below .0), high-of watched whole seen (below .1)) ⌝ }
@@ -104,7 +112,7 @@ impl<T: Tally> Watch<T> {
         ensures truth { λ r. ⌜ ((xs : List T·Key) → Watches (Key·Key .alike) (Key·Key .reads) (T·Tally .vouches (now (self .entry) .below)) (T·Tally .noted (now (self .entry) .below)) (now (self .entry) .key) (now (self .entry) .seen) (now (self .entry) .fresh) xs → Contains (Key·Key .alike) (min (T·Tally .noted (now (self .entry) .below)) (T·Tally .reaches (now (self .entry) .below))) key xs (r .0) (r .1)) ⌝ }
     {
         let below = self.below.range(key);
-        let whole = self.below.arrivals() <= self.below.reach();
+        let whole = is_whole(&self.below);
         pick(same_key(self.key, key), whole, self.seen, below)
     }
 

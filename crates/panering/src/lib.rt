@@ -7,3 +7,5 @@ pub mod ring;
 pub mod shape;
 mod sums;
 pub mod tally;
+#[cfg(test)]
+mod tests;

@@ -1,7 +1,6 @@
 use Prim.Native.Nat.{_≤_, min}
 use lib.Dec.{leb}
 use mathlib.Core.Path.{_≡_, refl, _∙_}
-use native.Mathlib.Omega.{arith}
 use Rattle.keys.specs.OfKey.{of-key}
 use Rattle.layers.proofs.Watching.{watched-contains}
 use Rattle.layers.specs.Watched.{high-of, low-of}
@@ -23,8 +22,8 @@ returns g c =
     let low = g .T·Tally .low (w .below) key in
     let high = g .T·Tally .high (w .below) key in
     let e : c .pick .result ≡ (low-of is (leb n reach) (w .seen) low, high-of is (leb n reach) (w .seen) high) =
-    c .pick .ensures ∙ rw (c .same-key .ensures, c .arrivals .ensures .value, c .reach .ensures, c .range-below .ensures .value) refl in
-    let few : n ≤ 100_000_000 = omega (arith, c .arrivals .ensures .value, c .arrivals .ensures .few) in
+    c .pick .ensures ∙ rw (c .same-key .ensures, c .is-whole-whole .ensures .value, c .range-below .ensures .value) refl in
+    let few : n ≤ 100_000_000 = c .is-whole-whole .ensures .few in
     record {
       value = e;
       truth = λ xs v.
