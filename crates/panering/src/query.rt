@@ -26,7 +26,7 @@ impl<'a, K: Key> PaneRing<'a, K> {
     }
 
     // The levels without the tail's, and the pane length for a tail: at most b + W/(k + 1).
-    pub(crate) fn spread(&self) -> u32
+    pub fn spread(&self) -> u32
         ensures value { λ r. ⌜ r ≡ ring-width (now (self .entry) .shape) (now (self .entry) .levels) ⌝ }
         ensures narrow { λ r. ⌜ ((xs : List K) → Ringed (K·Key .alike) (K·Key .reads) (now (self .entry) .shape) (now (self .entry) .levels) (now (now (self .entry) .cells)) (now (self .entry) .noted) xs → (k : K) → ring-high (of-key (K·Key .alike) (K·Key .reads) k) (now (self .entry) .shape) (now (self .entry) .levels) (now (now (self .entry) .cells)) ≤ ring-low (of-key (K·Key .alike) (K·Key .reads) k) (now (self .entry) .shape) (now (self .entry) .levels) (now (now (self .entry) .cells)) + r) ⌝ }
         ensures bounded { λ r. ⌜ ((xs : List K) → Ringed (K·Key .alike) (K·Key .reads) (now (self .entry) .shape) (now (self .entry) .levels) (now (now (self .entry) .cells)) (now (self .entry) .noted) xs → r ≤ most-end) ⌝ }
