@@ -17,6 +17,7 @@ use layers::watch_tally::WatchTally;
 use panering::ring::PaneRing;
 use panering::tally::PaneRingTally;
 use std::io;
+use tally::Tally;
 
 fn tables(rt: &LibcRuntime, watched: Reader) -> io::Result<()> {
     let mut area = [Cell::Free; 3];
@@ -53,10 +54,28 @@ fn logs(rt: &LibcRuntime, watched: Reader) -> io::Result<()> {
     compare(rt, "trim over watch over log", &mut pile)
 }
 
+// The range of the one reader that came three times to a ring of one pane of two, bare and trimmed.
+fn edge(rt: &LibcRuntime, reader: Reader) -> io::Result<()> {
+    let mut area = [Cell::Free; 2];
+    let mut ring = PaneRing::<Reader>::over(&mut area);
+    let _ = ring.open(2, 1, 1);
+    let _ = ring.note(reader);
+    let _ = ring.note(reader);
+    let (low, high) = ring.range(reader);
+    println!(rt, "ring after two: {low} to {high}")?;
+    let _ = ring.note(reader);
+    let (low, high) = ring.range(reader);
+    println!(rt, "ring after three: {low} to {high}")?;
+    let trimmed = Trim::over(ring);
+    let (low, high) = trimmed.range(reader);
+    println!(rt, "trim over ring after three: {low} to {high}")
+}
+
 fn main(rt: LibcRuntime) -> io::Result<()> {
     let Some(watched) = Reader::new(2) else {
         return Ok(());
     };
+    edge(&rt, watched)?;
     tables(&rt, watched)?;
     rings(&rt, watched)?;
     logs(&rt, watched)
