@@ -1,5 +1,7 @@
 // Runs badge tables over long pseudo-random arrivals, and compares every answer with a plain list of
 // all arrivals.
+#![tactic(auto)]
+
 use badgetable::table::BadgeTable;
 use cells::cell::Cell;
 use keys::badge::Badge;

@@ -1,4 +1,6 @@
 // The exact log: a tally that keeps its latest arrivals, and so counts them exactly.
+#![tactic(auto)]
+
 pub mod count;
 pub mod log;
 pub mod open;

@@ -1,4 +1,6 @@
 // Reads what the core hears from standard input, and prints reports and refusals.
+#![tactic(auto)]
+
 ghost use Rattle.std.specs.Prelude.{◌<◌, ◌≤◌, length, IfSome, IfOk};
 
 mod flow;

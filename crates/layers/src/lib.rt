@@ -1,4 +1,6 @@
 // Layers over any tally; any pile of them is a tally.
+#![tactic(auto)]
+
 pub mod trim;
 mod trimmed;
 pub mod watch;

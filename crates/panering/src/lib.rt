@@ -1,4 +1,6 @@
 // The pane ring: a tally of the latest arrivals, in panes that are count tables.
+#![tactic(auto)]
+
 pub mod count;
 pub mod open;
 mod panes;

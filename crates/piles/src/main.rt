@@ -1,5 +1,7 @@
 // Runs tallies and piles of layers over long pseudo-random arrivals, and compares every answer with
 // a plain list of all arrivals.
+#![tactic(auto)]
+
 mod compare;
 
 use cells::cell::Cell;

@@ -1,5 +1,7 @@
 // A tally counts arrivals of one kind of key, in little memory. What it means is the set of arrival
 // lists that it vouches for: every answer is true of each of them.
+#![tactic(auto)]
+
 ghost use Rattle.std.specs.Prelude.{◌≡◌, ℕ, ◌+◌, ◌≤◌, min, false, List, [], ◌∷◌, ◌++◌, length, if◌then◌else◌, None, Ok, Err, Option, MatchResult, nat_eq};
 ghost use Rattle.keys.specs.Refusals.{number_of, told};
 ghost use Rattle.keys.specs.declared.refusal.Refusal.TheVariants.{RunFull};
