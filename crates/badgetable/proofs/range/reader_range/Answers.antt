@@ -10,7 +10,7 @@ returns g c =
     let metᵇ = g.met.B.Key in
     let law = same_of x met.reflexive met.symmetric met.transitive in
     let lawᵇ = same_of y metᵇ.reflexive metᵇ.symmetric metᵇ.transitive in
-    let e = c.range-in.ensures.value in
+    let e = c.range_in.ensures.value in
     record {
       value = e;
       truth = λ n ps v. covers_pair _ _ _ _ e (reader_covers x g.A.Key.reads law y g.B.Key.reads lawᵇ c.args.rows.now c.args.cells.now c.args.level n ps v c.args.reader);

@@ -2,11 +2,11 @@ use Rattle.std.proofs.Common.{◌≡◌, sym, ◌∙◌, rules}
 use Rattle.cells.proofs.Firsts.{first_next, first_here, first_end}
 use Rattle.cells.proofs.find.find_key.Goals as goal
 
-pub returns-then-is-taken-by : goal.returns-then-is-taken-by
-returns-then-is-taken-by g c = record { value = first_here _ c.args.cells.now c.loop-i.i _ c.loop-i-test.true c.index-cells-i.is c.if-is-taken-by.ensures ∙ c.loop-i.invariant; within = search rules }
+pub returns-then-is_taken_by : goal.returns-then-is_taken_by
+returns-then-is_taken_by g c = record { value = first_here _ c.args.cells.now c.loop-i.i _ c.loop-i-test.true c.index-cells-i.is c.if-is_taken_by.ensures ∙ c.loop-i.invariant; within = search rules }
 
 pub loop-i-preserved : goal.loop-i-preserved
-loop-i-preserved g c = first_next _ c.args.cells.now c.loop-i.i _ c.loop-i-test.true c.index-cells-i.is c.if-is-taken-by.ensures ∙ c.loop-i.invariant
+loop-i-preserved g c = first_next _ c.args.cells.now c.loop-i.i _ c.loop-i-test.true c.index-cells-i.is c.if-is_taken_by.ensures ∙ c.loop-i.invariant
 
 pub returns : goal.returns
 returns g c = record { value = first_end _ c.args.cells.now c.loop-i.i c.loop-i-test.false ∙ c.loop-i.invariant; within = search rules }

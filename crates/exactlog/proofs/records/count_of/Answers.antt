@@ -4,8 +4,8 @@ use Rattle.exactlog.proofs.records.count_of.Goals as goal
 
 pub loop-r-preserved : goal.loop-r-preserved
 loop-r-preserved g c = (
-  count_next _ c.args.records.now c.loop-r.r-index _ c.loop-r.n c.one-of-n.result c.loop-r-test.true c.r-item.is c.loop-r.invariant.0 c.one-of-n.ensures.value,
-  omega (arith, c.loop-r.invariant.1, c.one-of-n.ensures.bound),
+  count_next _ c.args.records.now c.loop-r.r-index _ c.loop-r.n c.one_of-n.result c.loop-r-test.true c.r-item.is c.loop-r.invariant.0 c.one_of-n.ensures.value,
+  omega (arith, c.loop-r.invariant.1, c.one_of-n.ensures.bound),
 )
 
 pub returns : goal.returns

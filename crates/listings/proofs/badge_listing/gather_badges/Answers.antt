@@ -9,9 +9,9 @@ use Rattle.pages.specs.Listed.{listed}
 pub returns : goal.returns
 returns g c =
     let t = c.args.table.now in
-    let given = c.in-Ok.ensures in
+    let given = c.in_ok.ensures in
     let r = c.args.readers in
     let b = c.args.badges in
     let gate = badge_gate t r.p r.q b.p b.q in
     let same = ap (λ (a : Asked). listed (badge_place t a.readers.p a.readers.q a.badges.p a.badges.q a.arrivals) (row_count t * cell_count t)) given.same in
-    rows_through gate given.gate _ _ same c.args.room _ _ c.count.ensures c.if-count-room.false c.in-ok-gather.ensures
+    rows_through gate given.gate _ _ same c.args.room _ _ c.count.ensures c.if-count-room.false c.in_ok-gather.ensures

@@ -3,13 +3,13 @@ use Rattle.meter.proofs.Steps.{kept_of, right_of, told_of}
 use Rattle.meter.proofs.answer.answer.Goals as goal
 use Rattle.meter.specs.declared.call.Call.TheVariants.{ListBadges, Report}
 
-pub returns-in-ok-answer-2 : goal.returns-in-ok-answer-2
-returns-in-ok-answer-2 g c =
-    let told = c.in-ok-answer-2.ensures in
-    let a = c.in-ok-answer-2.answer in
+pub returns-in_ok-answer-2 : goal.returns-in_ok-answer-2
+returns-in_ok-answer-2 g c =
+    let told = c.in_ok-answer-2.ensures in
+    let a = c.in_ok-answer-2.answer in
     let s = c.args.tally.now in
     let d = c.args.table.now in
-    let at = c.in-ListBadges in
+    let at = c.in_list_badges in
     let call = ListBadges at.readers at.badges in
     record {
       told = told_of g.A.Key g.B.Key g.T.Tally s d c.args.call call at.is a c.args.rooms (told.told, refl, refl);
@@ -17,13 +17,13 @@ returns-in-ok-answer-2 g c =
       kept = kept_of g.A.Key g.B.Key g.T.Tally s d c.args.call call at.is a (λ b. refl);
     }
 
-pub returns-in-ok-answer-3 : goal.returns-in-ok-answer-3
-returns-in-ok-answer-3 g c =
-    let told = c.in-ok-answer-3.ensures in
-    let a = c.in-ok-answer-3.answer in
+pub returns-in_ok-answer-3 : goal.returns-in_ok-answer-3
+returns-in_ok-answer-3 g c =
+    let told = c.in_ok-answer-3.ensures in
+    let a = c.in_ok-answer-3.answer in
     let s = c.args.tally.now in
     let d = c.args.table.now in
-    let at = c.in-Report in
+    let at = c.in_report in
     let call = Report at.readers at.badges in
     record {
       told = told_of g.A.Key g.B.Key g.T.Tally s d c.args.call call at.is a c.args.rooms (told.told, refl, refl);

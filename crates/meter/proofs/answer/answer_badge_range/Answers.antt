@@ -10,7 +10,7 @@ returns g c =
     let metᵇ = g.met.B.Key in
     let lawᵇ = same_of g.B.Key.alike metᵇ.reflexive metᵇ.symmetric metᵇ.transitive in
     let t = c.args.table.now in
-    let told = c.badge-range-low.ensures in
+    let told = c.badge_range-low.ensures in
     record {
       told = ap Ok told.value;
       right = λ ps v.

@@ -7,6 +7,6 @@ returns g c =
     let n = c.arrivals.ensures in
     let m = c.arrivals-2.ensures in
     record {
-      value = both_full _ _ _ _ _ c.is-most.ensures n.value m.value;
-      book = λ b v. both_full _ _ _ _ _ c.is-most.ensures (sym (n.length _ v.0)) (sym (m.length _ v.1));
+      value = both_full _ _ _ _ _ c.is_most.ensures n.value m.value;
+      book = λ b v. both_full _ _ _ _ _ c.is_most.ensures (sym (n.length _ v.0)) (sym (m.length _ v.1));
     }

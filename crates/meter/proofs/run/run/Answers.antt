@@ -10,15 +10,15 @@ loop-call-preserved g c =
     let i = c.loop-call.call-index in
     let inv = c.loop-call.invariant in
     let new = inv.2 in
-    let told = c.in-ok-told.ensures in
+    let told = c.in_ok-told.ensures in
     let tally = c.answer.new.tally in
     let table = c.answer.new.table in
-    let r = c.in-ok-told.told in (
-      omega (arith, c.push-reserved.ensures.len, inv.0),
-      omega (arith, c.push-reserved.ensures.capacity, inv.1),
+    let r = c.in_ok-told.told in (
+      omega (arith, c.push_reserved.ensures.len, inv.0),
+      omega (arith, c.push_reserved.ensures.capacity, inv.1),
       new ++ r ∷ [],
       length_push new r ∙ ap (λ n. n + 1) inv.3,
-      pushed (vec_items c.reserve.new.self) _ new _ r inv.4 c.push-reserved.ensures.items,
+      pushed (vec_items c.reserve.new.self) _ new _ r inv.4 c.push_reserved.ensures.items,
       run_next g.A.Key g.B.Key g.T.Tally c.args.rooms calls i _ c.loop-call-test.true c.call-item.is c.args.tally.now c.args.table.now new c.loop-call.tally c.loop-call.table r tally table inv.5 told.told (λ b v. (told.right b v, told.kept b v)),
       λ b v. agrees_next g.A.Key g.B.Key g.T.Tally c.args.rooms calls i _ c.loop-call-test.true c.call-item.is b tally table (told.kept _ (inv.6 b v)),
     )
@@ -33,13 +33,13 @@ returns g c =
       all = omega (arith, inv.0, was.len, c.loop-call-test.false, c.loop-call.auto.call-index-end);
     }
 
-pub returns-in-err-told : goal.returns-in-err-told
-returns-in-err-told g c =
+pub returns-in_err-told : goal.returns-in_err-told
+returns-in_err-told g c =
     let inv = c.loop-call.invariant in
     let new = inv.2 in
     let was = c.reserve.ensures in
-    let k = c.in-err-told.ensures.kept in
-    let p = err_from_is_err_and c.from-residual-in-err-told.result c.from-residual-in-err-told.ensures.1 in
+    let k = c.in_err-told.ensures.kept in
+    let p = err_from_is_err_and c.from-residual-in_err-told.result c.from-residual-in_err-told.ensures.1 in
     rw p.1 (record {
       batch = rw (k.0, k.1) (batch_of g.A.Key g.B.Key g.T.Tally c.args.rooms c.args.tally.now c.args.table.now c.args.calls.now _ _ new c.loop-call.call-index _ _ inv.3 (inv.4 ∙ ap (λ l. l ++ new) was.items) inv.5 inv.6);
       all = tt;
@@ -56,8 +56,8 @@ loop-call-init g c = (
   λ b v. v,
 )
 
-pub returns-in-err-reserve : goal.returns-in-err-reserve
-returns-in-err-reserve g c =
+pub returns-in_err-reserve : goal.returns-in_err-reserve
+returns-in_err-reserve g c =
     let p = err_from_is_err_and c.from-residual.result c.from-residual.ensures.1 in
     rw p.1 (record {
       batch = batch_none g.A.Key g.B.Key g.T.Tally c.args.rooms c.args.tally.now c.args.table.now c.args.calls.now _ _ c.reserve.ensures.items;

@@ -13,4 +13,4 @@ some-cells k p i l =
 pub nonzero-div-back : goal.nonzero-div-back
 nonzero-div-back g c =
     let l : c.args.place < (c.args.shape.panes + 1) * c.args.shape.k = omega (arith, c.if-place-spots.false, c.spots.ensures.value) in
-    omega (arith, some-cells c.args.shape.k c.args.shape.panes c.args.place l, c.per-pane-k.ensures.value)
+    omega (arith, some-cells c.args.shape.k c.args.shape.panes c.args.place l, c.per_pane-k.ensures.value)

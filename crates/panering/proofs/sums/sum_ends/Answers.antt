@@ -7,8 +7,8 @@ use Rattle.panering.specs.Panes.{high_back, low_back}
 pub loop-j-preserved : goal.loop-j-preserved
 loop-j-preserved g c =
     let is = of_key g.row.K-Key.alike g.row.K-Key.reads c.args.key in
-    c.add-both-total.ensures
+    c.add_both-total.ensures
     ∙ both_more
     (low_back is c.args.shape c.args.levels.now c.args.cells.now)
     (high_back is c.args.shape c.args.levels.now c.args.cells.now)
-    c.loop-j.j c.loop-j.total c.ends-back.result c.loop-j.invariant c.ends-back.ensures
+    c.loop-j.j c.loop-j.total c.ends_back.result c.loop-j.invariant c.ends_back.ensures

@@ -5,6 +5,6 @@ use Rattle.panering.specs.Panes.{level_back}
 
 pub loop-j-preserved : goal.loop-j-preserved
 loop-j-preserved c =
-    c.saturating-add-total.ensures
-    ∙ capped_more (level_back c.args.shape c.args.levels.now) c.loop-j.j c.loop-j.total c.level-of.result c.loop-j.invariant
-    (c.level-of.ensures ∙ ap (λ t. get_or c.args.levels.now t 0) c.slot-back.ensures.value)
+    c.saturating_add-total.ensures
+    ∙ capped_more (level_back c.args.shape c.args.levels.now) c.loop-j.j c.loop-j.total c.level_of.result c.loop-j.invariant
+    (c.level_of.ensures ∙ ap (λ t. get_or c.args.levels.now t 0) c.slot_back.ensures.value)

@@ -10,6 +10,6 @@ returns g c =
     let is = of_key g.K.Key.alike g.K.Key.reads c.args.key in
     let r = g.K.Key.lies c.args.key in
     record {
-      cells = amid_is (λ p. cells_after c.args.level r tt p (rule_for is p)) c.args.from c.args.k c.args.cells.now _ c.note-in.ensures.cells;
-      rule = rw n at c.note-in.ensures.rule;
+      cells = amid_is (λ p. cells_after c.args.level r tt p (rule_for is p)) c.args.from c.args.k c.args.cells.now _ c.note_in.ensures.cells;
+      rule = rw n at c.note_in.ensures.rule;
     }

@@ -3,4 +3,4 @@ use Rattle.records.proofs.FieldBytes.{field_two}
 use Rattle.records.proofs.field.two_bytes.Goals as goal
 
 pub returns : goal.returns
-returns c = c.from-be-bytes.ensures ∙ field_two c.args.at c.args.bytes.now c.requires
+returns c = c.from_be_bytes.ensures ∙ field_two c.args.at c.args.bytes.now c.requires

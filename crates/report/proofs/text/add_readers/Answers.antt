@@ -6,7 +6,7 @@ use Rattle.report.specs.Texts.{reader_line}
 pub loop-row-preserved : goal.loop-row-preserved
 loop-row-preserved c =
     let line = reader_line c.args.share.p c.args.share.q c.args.t in
-    lines_next line c.args.rows.now c.loop-row.row-index (record { key = 0; low = 0; high = 0 }) _ _ _ _ c.loop-row-test.true c.loop-row.invariant (c.as-str.ensures.value ∙ c.in-ok-line.ensures) c.in-ok-add.ensures
+    lines_next line c.args.rows.now c.loop-row.row-index (record { key = 0; low = 0; high = 0 }) _ _ _ _ c.loop-row-test.true c.loop-row.invariant (c.as_str.ensures.value ∙ c.in_ok-line.ensures) c.in_ok-add.ensures
 
 pub returns : goal.returns
 returns c =

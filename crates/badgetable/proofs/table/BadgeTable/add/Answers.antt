@@ -26,12 +26,12 @@ returns g c =
     let rows = t.rows.now in
     let cs = t.cells.now in
     let level = t.level in
-    let ruled = c.note-in-rule.ensures in
+    let ruled = c.note_in-rule.ensures in
     let done = c.follow.ensures in
-    let per = c.cells-a-row-j.ensures in
+    let per = c.cells_a_row-j.ensures in
     let rows_are = rows_joined of is r s level rows cs _ per _ ruled.cells _ ruled.rule _ done.rows in
     let cells_are = cells_joined of is r s level rows cs _ per _ ruled.cells _ ruled.rule _ done.cells in
-    let level-is = c.level-after-self.ensures ∙ ap (level_after level) ruled.rule in
+    let level-is = c.level_after-self.ensures ∙ ap (level_after level) ruled.rule in
     let noted-is = ap (λ (m : ℕ). m + 1) done.kept.1 in
     record {
       after = record { rows = rows_are; cells = cells_are; level = level-is; noted = noted-is; same_rows = search rules; same_cells = search rules };

@@ -12,10 +12,10 @@ returns g c =
     let is = of_key g.B.Key.alike g.B.Key.reads c.args.badge in
     let s = g.B.Key.lies c.args.badge in
     let read = get_or_default rows c.args.i c.index-self-i.result Free c.requires in
-    let was = c.badge-level.ensures in
-    let noted = c.note-part-level.ensures in
+    let was = c.badge_level.ensures in
+    let noted = c.note_part-level.ensures in
     record {
-      rows = rows_entered is s c.args.j c.args.i rows cs _ read _ was _ _ noted.level c.with-badge-level.ensures;
+      rows = rows_entered is s c.args.j c.args.i rows cs _ read _ was _ _ noted.level c.with_badge_level.ensures;
       cells = cells_entered is s c.args.j c.args.i rows cs _ read _ was _ noted.cells;
       kept = search rules;
       size = search rules;

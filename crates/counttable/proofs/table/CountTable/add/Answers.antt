@@ -9,7 +9,7 @@ returns g c =
       size = search rules;
       level = search rules;
       noted = search rules;
-      vouched = λ xs v. rw c.level-after-self.ensures (c.note-in-rule.ensures.vouched n xs c.requires v);
-      ran = λ xs v. rw c.level-after-self.ensures (c.note-in-rule.ensures.ran n xs c.requires v);
+      vouched = λ xs v. rw c.level_after-self.ensures (c.note_in-rule.ensures.vouched n xs c.requires v);
+      ran = λ xs v. rw c.level_after-self.ensures (c.note_in-rule.ensures.ran n xs c.requires v);
       lender = search rules;
     }

@@ -8,7 +8,7 @@ returns g c =
     let t = c.args.self.now in
     let area = t.area.now in
     let r = g.row.K-Key.lies c.args.key in
-    let a : c.write-at.new.area ≡ area_after t.next r area = c.write-at.ensures ∙ rw (c.size-size.ensures.value, c.«record».ensures) refl in
+    let a : c.write_at.new.area ≡ area_after t.next r area = c.write_at.ensures ∙ rw (c.size-size.ensures.value, c.«record».ensures) refl in
     let n : c.after-self.result ≡ next_after t.next area = c.after-self.ensures ∙ rw c.size-size.ensures.value refl in
     record {
       area = a;

@@ -15,8 +15,8 @@ returns g c =
     let area = t.area.now in
     let key = c.args.key in
     let z : c.held-held.result - 0 ≡ min t.noted (size area) = omega (arith, c.held-held.ensures.value) in
-    let e : c.count-of-n.result ≡ count_by (of_key alike reads key) (kept t.noted area) =
-    c.count-of-n.ensures ∙ ap (λ m. count_by (of_key alike reads key) (take m area)) z in
+    let e : c.count_of-n.result ≡ count_by (of_key alike reads key) (kept t.noted area) =
+    c.count_of-n.ensures ∙ ap (λ m. count_by (of_key alike reads key) (take m area)) z in
     record {
       value = ap (λ m. (m, m)) e;
       truth = λ xs v. exact_contains alike reads law g.row.K-Key.lies met.restored t.noted t.next area xs v key _ e;

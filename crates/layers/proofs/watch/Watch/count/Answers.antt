@@ -13,7 +13,7 @@ returns g c =
     let law = same_of alike met.reflexive met.symmetric met.transitive in
     let w = c.args.self.now in
     let key = c.args.key in
-    let n = c.in-ok-note.ensures in
+    let n = c.in_ok-note.ensures in
     record {
       answer = search rules;
       kept = search rules;
@@ -26,7 +26,7 @@ returns g c =
           started = v.started;
           below = n.after.1 xs v.below;
           long = length_push xs key ∙ ap (λ m. m + 1) v.long ∙ sym n.after.0;
-          exact = rw (c.grow-self.ensures, c.same-key-watched.ensures) (exact_grown alike reads law key w.key w.seen _ xs (not_full _ _ n.answer n.few) v.long v.exact);
+          exact = rw (c.grow-self.ensures, c.same_key-watched.ensures) (exact_grown alike reads law key w.key w.seen _ xs (not_full _ _ n.answer n.few) v.long v.exact);
         },
       );
       seen = search rules;

@@ -20,7 +20,7 @@ returns g c =
     let low = g.T.Tally.low w.below key in
     let high = g.T.Tally.high w.below key in
     let e : c.pick.result ≡ (low_of is (leb n reach) w.seen low, high_of is (leb n reach) w.seen high) =
-    c.pick.ensures ∙ rw (c.same-key.ensures, c.is-whole-whole.ensures.value, c.range-below.ensures.value) refl in
+    c.pick.ensures ∙ rw (c.same_key.ensures, c.is_whole-whole.ensures.value, c.range-below.ensures.value) refl in
     record {
       value = e;
       truth = λ xs v.

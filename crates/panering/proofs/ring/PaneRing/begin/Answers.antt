@@ -5,11 +5,11 @@ use Rattle.panering.proofs.ring.PaneRing.begin.Goals as goal
 pub returns : goal.returns
 returns g c =
     record {
-      cells = c.empty-cells.ensures.cells;
+      cells = c.empty_cells.ensures.cells;
       size = search rules;
       levels = search rules;
       shape = search rules;
       noted = search rules;
-      ringed = ring_empty g.row.K-Key.alike g.row.K-Key.reads c.args.shape (length c.args.self.now.cells.now) c.empty-cells.new.cells c.empty-cells.ensures.cells c.requires.0 c.requires.1.no_arrivals c.requires.1.no_panes;
+      ringed = ring_empty g.row.K-Key.alike g.row.K-Key.reads c.args.shape (length c.args.self.now.cells.now) c.empty_cells.new.cells c.empty_cells.ensures.cells c.requires.0 c.requires.1.no_arrivals c.requires.1.no_panes;
       lender = search rules;
     }

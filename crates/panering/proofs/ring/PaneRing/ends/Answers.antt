@@ -8,8 +8,8 @@ returns g c =
     let reads = g.row.K-Key.reads in
     let t = c.args.self.now in
     let cs = t.cells.now in
-    let l = c.low-end-low.ensures in
-    let h = c.high-end-high.ensures in
+    let l = c.low_end-low.ensures in
+    let h = c.high_end-high.ensures in
     record {
       value = rw (l, h) refl;
       truth = λ xs v. rw (l, h) (ring_contains alike reads t.shape t.levels cs t.noted xs v c.args.key);

@@ -7,7 +7,7 @@ returns g c =
     let reads = g.row.K-Key.reads in
     let t = c.args.self.now in
     let cs = t.cells.now in
-    let e = c.top-of.ensures in
+    let e = c.top_of.ensures in
     record {
       value = e;
       ranges = λ xs v k. ring_contains alike reads t.shape t.levels cs t.noted xs v k;

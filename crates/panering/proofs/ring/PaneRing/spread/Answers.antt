@@ -7,7 +7,7 @@ returns g c =
     let reads = g.row.K-Key.reads in
     let t = c.args.self.now in
     let cs = t.cells.now in
-    let e = c.width-of.ensures in
+    let e = c.width_of.ensures in
     record {
       value = e;
       narrow = λ xs v k. rw e (ring_narrow alike reads t.shape t.levels cs t.noted xs v k);
