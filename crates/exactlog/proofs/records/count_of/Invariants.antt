@@ -4,4 +4,4 @@ use Rattle.keys.specs.OfKey.{of_key}
 
 abbrev pub invariant-loop-r : goal.invariant-loop-r
 invariant-loop-r g l =
-    (l.n ≡ count_by (of_key g.row.K-Key.alike g.row.K-Key.reads l.key) (take l.r-index l.records)) × (l.n ≤ l.r-index)
+    (l.n ≡ count_by (of_key g.K.Key.alike g.K.Key.reads l.key) (take l.r-index l.records)) × (l.n ≤ l.r-index)

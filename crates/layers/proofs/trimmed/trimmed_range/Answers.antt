@@ -6,5 +6,5 @@ pub returns : goal.returns
 returns g c =
     record {
       value = search rules;
-      truth = λ xs v. rw (c.min.ensures, c.within.ensures) (lowered g.row.T-Key-Key.alike _ c.args.key xs _ _ (c.range-low.ensures.truth xs v));
+      truth = λ xs v. rw (c.min.ensures, c.within.ensures) (lowered g.T.Key.Key.alike _ c.args.key xs _ _ (c.range-low.ensures.truth xs v));
     }

@@ -9,7 +9,7 @@ returns-in_ok-answer-2 g c =
     let a = c.in_ok-answer-2.answer in
     let s = c.args.tally.now in
     let d = c.args.table.now in
-    let at = c.in_list_badges in
+    let at = c.in-ListBadges in
     let call = ListBadges at.readers at.badges in
     record {
       told = told_of g.A.Key g.B.Key g.T.Tally s d c.args.call call at.is a c.args.rooms (told.told, refl, refl);
@@ -23,7 +23,7 @@ returns-in_ok-answer-3 g c =
     let a = c.in_ok-answer-3.answer in
     let s = c.args.tally.now in
     let d = c.args.table.now in
-    let at = c.in_report in
+    let at = c.in-Report in
     let call = Report at.readers at.badges in
     record {
       told = told_of g.A.Key g.B.Key g.T.Tally s d c.args.call call at.is a c.args.rooms (told.told, refl, refl);

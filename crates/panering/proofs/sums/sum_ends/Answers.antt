@@ -6,7 +6,7 @@ use Rattle.panering.specs.Panes.{high_back, low_back}
 
 pub loop-j-preserved : goal.loop-j-preserved
 loop-j-preserved g c =
-    let is = of_key g.row.K-Key.alike g.row.K-Key.reads c.args.key in
+    let is = of_key g.K.Key.alike g.K.Key.reads c.args.key in
     c.add_both-total.ensures
     ∙ both_more
     (low_back is c.args.shape c.args.levels.now c.args.cells.now)

@@ -7,7 +7,7 @@ pub returns : goal.returns
 returns g c =
     let t = c.args.self.now in
     let area = t.area.now in
-    let r = g.row.K-Key.lies c.args.key in
+    let r = g.K.Key.lies c.args.key in
     let a : c.write_at.new.area ≡ area_after t.next r area = c.write_at.ensures ∙ rw (c.size-size.ensures.value, c.«record».ensures) refl in
     let n : c.after-self.result ≡ next_after t.next area = c.after-self.ensures ∙ rw c.size-size.ensures.value refl in
     record {
@@ -15,6 +15,6 @@ returns g c =
       length = search rules;
       next = n;
       noted = search rules;
-      logged = λ xs v. rw (a, n) (logged_noted g.row.K-Key.lies t.noted t.next area xs c.args.key c.requires v);
+      logged = λ xs v. rw (a, n) (logged_noted g.K.Key.lies t.noted t.next area xs c.args.key c.requires v);
       lender = search rules;
     }

@@ -7,8 +7,8 @@ use Rattle.exactlog.proofs.log.ExactLog.ends.Goals as goal
 
 pub returns : goal.returns
 returns g c =
-    let alike = g.row.K-Key.alike in
-    let reads = g.row.K-Key.reads in
+    let alike = g.K.Key.alike in
+    let reads = g.K.Key.reads in
     let met = g.met.K.Key in
     let law = same_of alike met.reflexive met.symmetric met.transitive in
     let t = c.args.self.now in
@@ -19,5 +19,5 @@ returns g c =
     c.count_of-n.ensures ∙ ap (λ m. count_by (of_key alike reads key) (take m area)) z in
     record {
       value = ap (λ m. (m, m)) e;
-      truth = λ xs v. exact_contains alike reads law g.row.K-Key.lies met.restored t.noted t.next area xs v key _ e;
+      truth = λ xs v. exact_contains alike reads law g.K.Key.lies met.restored t.noted t.next area xs v key _ e;
     }

@@ -7,8 +7,8 @@ use Rattle.layers.proofs.watch.Watch.count.Goals as goal
 
 pub returns : goal.returns
 returns g c =
-    let alike = g.row.T-Key-Key.alike in
-    let reads = g.row.T-Key-Key.reads in
+    let alike = g.T.Key.Key.alike in
+    let reads = g.T.Key.Key.reads in
     let met = g.met.T.Key.Key in
     let law = same_of alike met.reflexive met.symmetric met.transitive in
     let w = c.args.self.now in

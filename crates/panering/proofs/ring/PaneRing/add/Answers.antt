@@ -7,14 +7,14 @@ use Rattle.panering.proofs.ring.PaneRing.add.Goals as goal
 
 pub returns : goal.returns
 returns g c =
-    let alike = g.row.K-Key.alike in
-    let reads = g.row.K-Key.reads in
+    let alike = g.K.Key.alike in
+    let reads = g.K.Key.reads in
     let t = c.args.self.now in
     let cs = t.cells.now in
     let met = g.met.K.Key in
     let law = same_of alike met.reflexive met.symmetric met.transitive in
     let key = c.args.key in
-    let r = g.row.K-Key.lies key in
+    let r = g.K.Key.lies key in
     let is = of_key alike reads key in
     let a = c.note_current.ensures in
     let b = c.advance.ensures in

@@ -10,6 +10,6 @@ returns g c =
       levels = search rules;
       shape = search rules;
       noted = search rules;
-      ringed = ring_empty g.row.K-Key.alike g.row.K-Key.reads c.args.shape (length c.args.self.now.cells.now) c.empty_cells.new.cells c.empty_cells.ensures.cells c.requires.0 c.requires.1.no_arrivals c.requires.1.no_panes;
+      ringed = ring_empty g.K.Key.alike g.K.Key.reads c.args.shape (length c.args.self.now.cells.now) c.empty_cells.new.cells c.empty_cells.ensures.cells c.requires.0 c.requires.1.no_arrivals c.requires.1.no_panes;
       lender = search rules;
     }

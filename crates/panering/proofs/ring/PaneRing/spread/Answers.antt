@@ -3,8 +3,8 @@ use Rattle.panering.proofs.ring.PaneRing.spread.Goals as goal
 
 pub returns : goal.returns
 returns g c =
-    let alike = g.row.K-Key.alike in
-    let reads = g.row.K-Key.reads in
+    let alike = g.K.Key.alike in
+    let reads = g.K.Key.reads in
     let t = c.args.self.now in
     let cs = t.cells.now in
     let e = c.width_of.ensures in
