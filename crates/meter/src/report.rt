@@ -60,7 +60,7 @@ pub(crate) fn answer_report<A: Key, B: Key, T: Tally<Key = A>>(
     heap: Global,
 ) -> Result<Answer<A::Record, B::Record>, AllocError>
     ensures told { IfOk result (λ a. as_report a ≡ report_rule A.Key B.Key T.Tally rooms tally.now table.now readers badges) }
-    ensures* right { λ r. ⌜ IfOk r (λ a. (b : Book A B) → Agrees A.Key B.Key T.Tally tally.now table.now (Some b) → Given (as_report a) (λ r. RightReport A.Key B.Key T.Tally b tally.now table.now readers badges r)) ⌝ }
+    ensures right { IfOk result (λ a. (b : Book A B) → Agrees A.Key B.Key T.Tally tally.now table.now (Some b) → Given (as_report a) (λ r. RightReport A.Key B.Key T.Tally b tally.now table.now readers badges r)) }
 {
     ask_all(tally);
     let listed = gather_readers(tally, readers, rooms.readers, heap)?;

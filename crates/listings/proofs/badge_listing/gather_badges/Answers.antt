@@ -9,7 +9,7 @@ use Rattle.pages.specs.Listed.{listed}
 pub returns : goal.returns
 returns g c =
     let t = c.args.table.now in
-    let given = c.in_ok.ensures in
+    let given = c.in-Ok.ensures in
     let r = c.args.readers in
     let b = c.args.badges in
     let gate = badge_gate t r.p r.q b.p b.q in

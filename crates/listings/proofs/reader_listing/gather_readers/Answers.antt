@@ -7,7 +7,7 @@ use Rattle.listings.specs.Listings.{reader_gate, reader_rows}
 pub returns : goal.returns
 returns g c =
     let s = c.args.tally.now in
-    let given = c.in_ok.ensures in
+    let given = c.in-Ok.ensures in
     let share = c.args.share in
     let gate = reader_gate g.A.Key g.T.Tally s share.p share.q in
     let same = ap (λ (f : Fraction). reader_rows g.A.Key g.T.Tally s f.p f.q) given.same in
