@@ -3,10 +3,10 @@ use Rattle.meter.proofs.Steps.{kept_of, right_of, told_of}
 use Rattle.meter.proofs.answer.answer.Goals as goal
 use Rattle.meter.specs.declared.call.Call.TheVariants.{ListBadges, Report}
 
-pub returns-in_ok-answer-2 : goal.returns-in_ok-answer-2
-returns-in_ok-answer-2 g c =
-    let told = c.in_ok-answer-2.ensures in
-    let a = c.in_ok-answer-2.answer in
+pub returns-in_ok-answer-in-ListBadges : goal.returns-in_ok-answer-in-ListBadges
+returns-in_ok-answer-in-ListBadges g c =
+    let told = c.in_ok-answer-in-ListBadges.ensures in
+    let a = c.in_ok-answer-in-ListBadges.answer in
     let s = c.args.tally.now in
     let d = c.args.table.now in
     let at = c.in-ListBadges in
@@ -17,10 +17,10 @@ returns-in_ok-answer-2 g c =
       kept = kept_of g.A.Key g.B.Key g.T.Tally s d c.args.call call at.is a (λ b. refl);
     }
 
-pub returns-in_ok-answer-3 : goal.returns-in_ok-answer-3
-returns-in_ok-answer-3 g c =
-    let told = c.in_ok-answer-3.ensures in
-    let a = c.in_ok-answer-3.answer in
+pub returns-in_ok-answer-in-Report : goal.returns-in_ok-answer-in-Report
+returns-in_ok-answer-in-Report g c =
+    let told = c.in_ok-answer-in-Report.ensures in
+    let a = c.in_ok-answer-in-Report.answer in
     let s = c.args.tally.now in
     let d = c.args.table.now in
     let at = c.in-Report in

@@ -39,7 +39,7 @@ returns-in_err-told g c =
     let new = inv.2 in
     let was = c.reserve.ensures in
     let k = c.in_err-told.ensures.kept in
-    let p = err_from_is_err_and c.from-residual-in_err-told.result c.from-residual-in_err-told.ensures.1 in
+    let p = err_from_is_err_and c.from_residual-in_err-told.result c.from_residual-in_err-told.ensures.1 in
     rw p.1 (record {
       batch = rw (k.0, k.1) (batch_of g.A.Key g.B.Key g.T.Tally c.args.rooms c.args.tally.now c.args.table.now c.args.calls.now _ _ new c.loop-call.call-index _ _ inv.3 (inv.4 ∙ ap (λ l. l ++ new) was.items) inv.5 inv.6);
       all = tt;
@@ -58,7 +58,7 @@ loop-call-init g c = (
 
 pub returns-in_err-reserve : goal.returns-in_err-reserve
 returns-in_err-reserve g c =
-    let p = err_from_is_err_and c.from-residual.result c.from-residual.ensures.1 in
+    let p = err_from_is_err_and c.from_residual.result c.from_residual.ensures.1 in
     rw p.1 (record {
       batch = batch_none g.A.Key g.B.Key g.T.Tally c.args.rooms c.args.tally.now c.args.table.now c.args.calls.now _ _ c.reserve.ensures.items;
       all = tt;
