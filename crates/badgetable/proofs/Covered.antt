@@ -1,10 +1,10 @@
 -- what the ranges of a table owe of the lists that it accounts for
-use Rattle.std.proofs.Common.{◌≡◌, ℕ, ◌+◌, ◌*◌, ◌/◌, ◌<◌, ◌≤◌, min, Bool, true, false, ◌&&◌, List, length, get_or, Some, None, Option, sym, refl, ap, ◌∙◌, ⊎_elim, div-mul-le_self, arith}
+use Rattle.std.proofs.Common.{◌≡◌, ℕ, ◌+◌, ◌/◌, ◌≤◌, min, Bool, true, false, List, length, get_or, Some, None, Option, sym, refl, ap, ◌∙◌, ⊎_elim, div-mul-le_self, arith}
 use Rattle.badgetable.proofs.Pairs.{badge_part}
 use Rattle.badgetable.proofs.Rooms.{held_inside, row_room}
 use Rattle.badgetable.specs.Plans.{cells_a_row}
-use Rattle.badgetable.specs.Rows.{badge_ends, row_ends}
-use Rattle.badgetable.specs.Shown.{Covers, Follows, Shown, badge_count, both_alike, reader_count, readers_of}
+use Rattle.badgetable.specs.Rows.{badge_ends}
+use Rattle.badgetable.specs.Shown.{Covers, Shown, badge_count, both_alike, reader_count, readers_of}
 use Rattle.cells.proofs.Bounds.{high_covered, level_share, narrow}
 use Rattle.cells.proofs.Changed.{first_none}
 use Rattle.cells.proofs.Kept.{level_below}
@@ -20,12 +20,11 @@ use Rattle.parts.proofs.Areas.{length_part}
 use Rattle.parts.specs.Parts.{part}
 use Rattle.std.proofs.lemmas.Nat.{le-div}
 use Rattle.std.proofs.lemmas.List.{length-map}
-use Rattle.std.proofs.lemmas.Bool.{and_from, and_parts, cases_Bool}
+use Rattle.std.proofs.lemmas.Bool.{and_from, and_parts}
 use Rattle.tally.proofs.Counts.{occurs_alike}
 use Rattle.tally.proofs.OfKey.{of_key_at}
 use Rattle.tally.proofs.Options.{cases_option}
 use Rattle.tally.proofs.Sameness.{Same}
-use Rattle.tally.specs.Arrivals.{occurs}
 use Rattle.tally.specs.Owed.{most_arrivals}
 
 -- a quotient grows with what is divided

@@ -1,7 +1,7 @@
 -- how a row's badge table follows the badges at its reader, with an arrival more
-use Rattle.std.proofs.Common.{◌≡◌, ℕ, ◌+◌, ◌<◌, ◌≤◌, Bool, true, false, List, [], ◌∷◌, ◌++◌, length, replicate, Some, Option, sym, refl, ap, ◌∙◌, ⊎_elim, arith}
+use Rattle.std.proofs.Common.{◌≡◌, ℕ, ◌+◌, ◌<◌, ◌≤◌, Bool, true, false, List, [], ◌∷◌, ◌++◌, length, Some, Option, refl, ⊎_elim, arith}
 use Rattle.badgetable.proofs.Pairs.{badge_part, elsewhere, other_badge, this_badge}
-use Rattle.badgetable.specs.Shown.{Follows, badge_count, reader_count}
+use Rattle.badgetable.specs.Shown.{Follows, reader_count}
 use Rattle.cells.proofs.Cleared.{cleared_vouches}
 use Rattle.cells.proofs.Kept.{note_kept}
 use Rattle.cells.specs.Cells.{cells_after, emptied, level_after, rule_for}
@@ -11,7 +11,6 @@ use Rattle.keys.specs.OfKey.{of_key}
 use Rattle.std.proofs.lemmas.Bool.{cases_Bool}
 use Rattle.tally.proofs.Counts.{occurs_other, occurs_same}
 use Rattle.tally.proofs.Sameness.{Same}
-use Rattle.tally.specs.Arrivals.{occurs}
 use Rattle.tally.specs.Owed.{most_arrivals}
 
 module _ {A B R S : Type 0} (x : A → A → Bool) (reads : R → Option A) (y : B → B → Bool) (readsᵇ : S → Option B) where

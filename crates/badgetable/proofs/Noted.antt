@@ -1,11 +1,11 @@
 -- a table that accounts for a list accounts for it with one arrival more
-use Rattle.std.proofs.Common.{◌≡◌, ℕ, ◌+◌, ◌*◌, ◌<◌, ◌≤◌, Bool, true, false, eqb, List, [], ◌∷◌, ◌++◌, map, length, get_or, set, Some, None, Option, sym, refl, ap, ◌∙◌, subst, ⊎_elim, arith}
+use Rattle.std.proofs.Common.{◌≡◌, ℕ, ◌+◌, ◌*◌, ◌<◌, ◌≤◌, Bool, true, false, List, [], ◌∷◌, ◌++◌, map, length, get_or, set, Some, None, Option, sym, refl, ap, ◌∙◌, subst, ⊎_elim, arith}
 use Rattle.badgetable.proofs.Followed.{follows_new, follows_other, follows_same}
 use Rattle.badgetable.proofs.Pairs.{readers_push}
 use Rattle.badgetable.proofs.Rooms.{held_inside, row_room, swept_length, swept_other, with_part_keeps}
 use Rattle.badgetable.specs.Plans.{cells_a_row}
-use Rattle.badgetable.specs.Rows.{badge_level, badges_after, cells_by, cells_shown, per_row, rows_after, rows_by, rows_counted, rows_shown, swept}
-use Rattle.badgetable.specs.Shown.{Follows, Shown, reader_count, readers_of}
+use Rattle.badgetable.specs.Rows.{badge_level, badges_after, cells_by, cells_shown, rows_after, rows_by, rows_counted, rows_shown, swept}
+use Rattle.badgetable.specs.Shown.{Follows, Shown, readers_of}
 use Rattle.cells.proofs.Beside.{ran_aside}
 use Rattle.cells.proofs.Changed.{first_none}
 use Rattle.cells.proofs.Lengths.{length_after, length_emptied}
@@ -13,7 +13,7 @@ use Rattle.cells.proofs.Places.{absent_at, first_at, once_at, sound_at, taken_ho
 use Rattle.cells.proofs.Ranges.{ends_absent}
 use Rattle.cells.proofs.Runs.{note_ran}
 use Rattle.cells.proofs.Sounds.{sound_once}
-use Rattle.cells.specs.Cells.{capped, cells_after, counted, emptied, entered, first, is_free, level_after, rule_for, taken_by, with_beside, worn}
+use Rattle.cells.specs.Cells.{capped, cells_after, counted, emptied, entered, first, is_free, level_after, rule_for, taken_by, worn}
 use Rattle.cells.specs.Vouched.{Absent, Ran}
 use Rattle.cells.specs.declared.cell.Cell.{Cell}
 use Rattle.cells.specs.declared.cell.Cell.TheVariants.{Free, Held}

@@ -1,5 +1,5 @@
 -- every row has its part of the cells, and keeps it
-use Rattle.std.proofs.Common.{◌≡◌, ℕ, zero, suc, ◌+◌, ◌*◌, ◌/◌, ◌<◌, ◌≤◌, Bool, true, false, cond, ◌&&◌, eqb, leb, List, [], ◌∷◌, length, get_or, MatchBool, sym, refl, ap, ◌∙◌, ⊎_elim, mul-le-mul_right, mul_comm, add-mul, mul-zero, div-mul-le_self, mul-div_cancel, arith}
+use Rattle.std.proofs.Common.{◌≡◌, ℕ, zero, suc, ◌+◌, ◌*◌, ◌/◌, ◌<◌, ◌≤◌, Bool, true, false, ◌&&◌, eqb, leb, List, [], ◌∷◌, length, get_or, MatchBool, sym, refl, ap, ◌∙◌, ⊎_elim, mul-le-mul_right, mul_comm, add-mul, mul-zero, div-mul-le_self, mul-div_cancel, arith}
 use Rattle.badgetable.specs.Plans.{cells_a_row, plan_fits}
 use Rattle.badgetable.specs.Rows.{swept, swept_row}
 use Rattle.cells.proofs.Lengths.{length_emptied}

@@ -1,10 +1,9 @@
 -- a table of free rows and cells accounts for no arrivals
-use Rattle.std.proofs.Common.{◌≡◌, ℕ, zero, suc, Bool, List, [], length, get_or, replicate, Option, sym, refl, ap, ◌∙◌, arith}
+use Rattle.std.proofs.Common.{◌≡◌, ℕ, zero, suc, Bool, List, [], get_or, replicate, Option, sym, refl, ap, ◌∙◌, arith}
 use Rattle.badgetable.specs.Shown.{Shown}
 use Rattle.cells.specs.Vouched.{Ran}
 use Rattle.cells.specs.declared.cell.Cell.{Cell}
 use Rattle.cells.specs.declared.cell.Cell.TheVariants.{Free, Held}
-use Rattle.cells.specs.declared.cell.Slot.{Slot}
 
 free_at : {R X : Type 0} (m i : ℕ) → get_or {A = Cell R X} (replicate m Free) i Free ≡ Free
 free_at zero i = refl

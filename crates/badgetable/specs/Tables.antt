@@ -1,4 +1,4 @@
-use Rattle.std.specs.Prelude.{◌≡◌, ℕ, ◌+◌, min, Bool, List, [], length, Option}
+use Rattle.std.specs.Prelude.{◌≡◌, ℕ, ◌+◌, min, Bool, List, length, Option}
 use Rattle.badgetable.specs.Plans.{cells_a_row}
 use Rattle.badgetable.specs.Rows.{badges_after, rows_after}
 use Rattle.badgetable.specs.Shown.{Shown}

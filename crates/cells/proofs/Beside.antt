@@ -1,14 +1,11 @@
 -- what cells vouch for does not hang on what is kept beside
-use Rattle.std.proofs.Common.{◌≡◌, ℕ, zero, suc, ◌+◌, ◌-◌, ◌*◌, ◌/◌, ◌<◌, ◌≤◌, Bool, true, false, cond, List, [], ◌∷◌, map, length, get_or, set, Some, None, Option, unwrap_or, sym, refl, ap, ◌∙◌, arith}
-use mathlib.Core.List.{Permᴰ}
+use Rattle.std.proofs.Common.{◌≡◌, ℕ, zero, suc, ◌+◌, ◌-◌, Bool, List, [], ◌∷◌, get_or, set, Option, unwrap_or, sym, refl, ap, ◌∙◌}
 use Rattle.std.proofs.lemmas.List.{length-set}
 use Rattle.cells.proofs.Counters.{counters_cons}
 use Rattle.cells.specs.Cells.{cell_ends, ends, with_beside}
-use Rattle.cells.specs.MisraGries.{misra_gries}
-use Rattle.cells.specs.Vouched.{Absent, Live, Ran, Sound, Vouched, counted_keys, counter, counters, with_key}
+use Rattle.cells.specs.Vouched.{Absent, Ran, Sound, Vouched, counted_keys, counter, counters, with_key}
 use Rattle.cells.specs.declared.cell.Cell.{Cell}
 use Rattle.cells.specs.declared.cell.Cell.TheVariants.{Free, Held}
-use Rattle.cells.specs.declared.cell.Slot.{Slot}
 use Rattle.keys.specs.OfKey.{of_key}
 
 module _ {R X : Type 0} (x : X) where

@@ -1,16 +1,14 @@
 -- what cells that vouch for a list owe: how wide ranges are, how large, and what a key held nowhere has
-use Rattle.std.proofs.Common.{◌≡◌, ℕ, suc, ◌+◌, ◌-◌, ◌*◌, ◌/◌, ◌<◌, ◌≤◌, Bool, true, false, cond, eqb, ◌⊎◌, List, [], ◌∷◌, map, length, get_or, set, Some, None, Option, unwrap_or, sym, refl, ap, ◌∙◌, ⊎_elim, mul_comm, add-mul, arith}
-use Rattle.std.proofs.lemmas.Bool.{cases_Bool, both_ways, eqb-true, eqb-false}
+use Rattle.std.proofs.Common.{◌≡◌, ℕ, suc, ◌+◌, ◌/◌, ◌<◌, ◌≤◌, Bool, true, false, List, [], ◌∷◌, length, get_or, Some, None, Option, sym, refl, ◌∙◌, ⊎_elim, mul_comm, add-mul, arith}
+use Rattle.std.proofs.lemmas.Bool.{cases_Bool}
 use Rattle.std.proofs.lemmas.Nat.{le-div}
 use Rattle.tally.proofs.Counts.{held_nowhere, true_count_all}
-use Rattle.tally.specs.Arrivals.{occurs, true_count}
 use Rattle.tally.specs.Owed.{Contains, held_below, holds}
-use Rattle.cells.specs.Cells.{capped, cell_ends, ends, key_at, key_in, taken_by}
+use Rattle.cells.specs.Cells.{ends, key_at, key_in, taken_by}
 use Rattle.keys.specs.OfKey.{of_key}
-use Rattle.cells.specs.Vouched.{Absent, Live, Sound, Vouched, counters}
+use Rattle.cells.specs.Vouched.{Absent, Sound, Vouched, counters}
 use Rattle.cells.specs.declared.cell.Cell.{Cell}
 use Rattle.cells.specs.declared.cell.Cell.TheVariants.{Free, Held}
-use Rattle.cells.specs.declared.cell.Slot.{Slot}
 use Rattle.cells.proofs.Counters.{counters_cons}
 use Rattle.cells.proofs.Kept.{level_below}
 use Rattle.tally.proofs.Options.{cases_option}

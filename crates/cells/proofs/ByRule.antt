@@ -1,10 +1,8 @@
 -- what holds after each of the three rules holds after an arrival
-use Rattle.std.proofs.Common.{◌≡◌, ℕ, suc, ◌+◌, ◌-◌, ◌*◌, ◌<◌, ◌≤◌, Bool, true, false, cond, eqb, ◌⊎◌, List, [], ◌∷◌, map, length, get_or, set, Some, None, Option, unwrap_or, sym, refl, ap, ◌∙◌, ⊎_elim, arith}
-use Rattle.std.proofs.lemmas.Bool.{cases_Bool, both_ways, eqb-true, eqb-false}
+use Rattle.std.proofs.Common.{◌≡◌, ℕ, ◌+◌, Bool, List, map, get_or, set, Some, None, ⊎_elim}
 use Rattle.cells.specs.Cells.{capped, cells_after, counted, entered, first, is_free, level_after, rule_for, taken_by, worn}
 use Rattle.cells.specs.declared.cell.Cell.{Cell}
-use Rattle.cells.specs.declared.cell.Cell.TheVariants.{Free, Held}
-use Rattle.cells.specs.declared.cell.Slot.{Slot}
+use Rattle.cells.specs.declared.cell.Cell.TheVariants.{Free}
 use Rattle.cells.proofs.Changed.{changed, first_set}
 use Rattle.tally.proofs.Options.{cases_option}
 

@@ -1,5 +1,5 @@
 -- free cells at level 0 are where the empty run leads
-use Rattle.std.proofs.Common.{◌≡◌, ℕ, zero, suc, ◌+◌, ◌*◌, Bool, List, [], ◌∷◌, length, replicate, Option, refl, zero-le, mul-zero, arith}
+use Rattle.std.proofs.Common.{◌≡◌, ℕ, zero, suc, ◌+◌, Bool, List, [], length, replicate, Option, refl, zero-le, mul-zero, arith}
 use mathlib.Core.List.{Permᴰ}
 use Rattle.cells.specs.Cells.{ends}
 use Rattle.keys.specs.OfKey.{of_key}

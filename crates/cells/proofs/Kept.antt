@@ -1,15 +1,14 @@
 -- cells that vouch for a list vouch for it with one arrival more
-use Rattle.std.proofs.Common.{◌≡◌, ℕ, suc, ◌+◌, ◌-◌, ◌*◌, ◌<◌, ◌≤◌, Bool, true, false, cond, eqb, ◌⊎◌, List, [], ◌∷◌, ◌++◌, map, length, get_or, set, Some, None, Option, unwrap_or, sym, refl, ap, ◌∙◌, ⊎_elim, add-mul, mul-add, arith}
-use Rattle.std.proofs.lemmas.Bool.{cases_Bool, both_ways, eqb-true, eqb-false}
+use Rattle.std.proofs.Common.{◌≡◌, ℕ, ◌+◌, ◌<◌, ◌≤◌, Bool, true, false, List, [], ◌∷◌, ◌++◌, map, length, Some, None, Option, ap, ◌∙◌, ⊎_elim, add-mul, mul-add, arith}
+use Rattle.std.proofs.lemmas.Bool.{cases_Bool}
 use Rattle.std.proofs.lemmas.List.{length_push, length-map}
 use Rattle.tally.proofs.Counts.{occurs_same, occurs_other}
 use Rattle.tally.proofs.Sameness.{Same}
-use Rattle.tally.specs.Arrivals.{occurs}
-use Rattle.cells.specs.Cells.{capped, cells_after, counted, ends, entered, first, is_free, level_after, rule_for, taken_by, worn}
+use Rattle.cells.specs.Cells.{capped, cells_after, counted, first, is_free, level_after, rule_for, taken_by, worn}
 use Rattle.keys.specs.OfKey.{of_key}
-use Rattle.cells.specs.Vouched.{Absent, Live, Sound, Vouched, counters}
+use Rattle.cells.specs.Vouched.{Absent, Vouched}
 use Rattle.cells.specs.declared.cell.Cell.{Cell}
-use Rattle.cells.specs.declared.cell.Cell.TheVariants.{Free, Held}
+use Rattle.cells.specs.declared.cell.Cell.TheVariants.{Held}
 use Rattle.cells.specs.declared.cell.Slot.{Slot}
 use Rattle.cells.proofs.ByRule.{by_rule}
 use Rattle.cells.proofs.Changed.{changed, first_none, length_changed}

@@ -1,13 +1,13 @@
 -- keys and counters in cells follow the method of Misra and Gries, rule by rule
-use Rattle.std.proofs.Common.{◌≡◌, ℕ, suc, ◌+◌, ◌-◌, ◌*◌, ◌<◌, ◌≤◌, Bool, true, false, cond, eqb, ltb, ◌⊎◌, List, [], ◌∷◌, map, length, get_or, set, Some, None, Option, unwrap_or, sym, refl, ap, ◌∙◌, ⊎_elim, arith}
+use Rattle.std.proofs.Common.{◌≡◌, ℕ, suc, ◌+◌, ◌-◌, ◌<◌, ◌≤◌, Bool, true, false, eqb, ltb, List, [], ◌∷◌, map, length, Some, None, Option, sym, refl, ap, ◌∙◌, ⊎_elim, arith}
 use mathlib.Core.List.Permᴰ
 use mathlib.Core.List.{Permᴰ}
-use Rattle.std.proofs.lemmas.Bool.{cases_Bool, both_ways, eqb-true, eqb-false, lt-ltb, le-ltb}
+use Rattle.std.proofs.lemmas.Bool.{cases_Bool, eqb-true, eqb-false, lt-ltb, le-ltb}
 use Rattle.tally.proofs.Sameness.{Same}
 use Rattle.cells.specs.Cells.{capped, counted, first, is_free, taken_by, worn}
 use Rattle.keys.specs.OfKey.{of_key}
-use Rattle.cells.specs.MisraGries.{decremented, has_counter, incremented, less_one, not_zero}
-use Rattle.cells.specs.Vouched.{Absent, Live, Sound, counted_keys, with_key}
+use Rattle.cells.specs.MisraGries.{decremented, has_counter, incremented}
+use Rattle.cells.specs.Vouched.{Absent, Sound, counted_keys}
 use Rattle.cells.specs.declared.cell.Cell.{Cell}
 use Rattle.cells.specs.declared.cell.Cell.TheVariants.{Free, Held}
 use Rattle.cells.specs.declared.cell.Slot.{Slot}

@@ -1,9 +1,8 @@
 -- the range of a key after each of the three rules
-use Rattle.std.proofs.Common.{◌≡◌, ℕ, suc, ◌+◌, ◌-◌, ◌*◌, ◌<◌, ◌≤◌, Bool, true, false, cond, eqb, ◌⊎◌, List, [], ◌∷◌, map, length, get_or, set, Some, None, Option, unwrap_or, sym, refl, ap, ◌∙◌, ⊎_elim, arith}
-use Rattle.std.proofs.lemmas.Bool.{cases_Bool, both_ways, eqb-true, eqb-false}
+use Rattle.std.proofs.Common.{◌≡◌, ℕ, ◌+◌, ◌<◌, ◌≤◌, Bool, true, false, eqb, List, [], ◌∷◌, map, Some, Option, unwrap_or, refl, ap, ◌∙◌, ⊎_elim, arith}
+use Rattle.std.proofs.lemmas.Bool.{cases_Bool, eqb-true}
 use Rattle.cells.specs.Cells.{capped, cell_ends, counted, ends, first, is_free, taken_by, worn}
-use Rattle.keys.specs.OfKey.{of_key}
-use Rattle.cells.specs.Vouched.{Absent, Live, Sound}
+use Rattle.cells.specs.Vouched.{Absent, Sound}
 use Rattle.cells.specs.declared.cell.Cell.{Cell}
 use Rattle.cells.specs.declared.cell.Cell.TheVariants.{Free, Held}
 use Rattle.cells.specs.declared.cell.Slot.{Slot}

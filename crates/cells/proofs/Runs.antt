@@ -1,16 +1,16 @@
 -- a whole run of arrivals leads where the method of Misra and Gries leads, and the sum for n stays exact
-use Rattle.std.proofs.Common.{◌≡◌, ℕ, suc, ◌+◌, ◌-◌, ◌*◌, ◌<◌, ◌≤◌, Bool, true, false, cond, ltb, List, [], ◌∷◌, ◌++◌, map, length, get_or, set, Some, None, Option, unwrap_or, sym, refl, ap, ◌∙◌, mul-add, arith}
+use Rattle.std.proofs.Common.{◌≡◌, ℕ, ◌+◌, ◌*◌, ◌<◌, ◌≤◌, Bool, true, false, List, [], ◌∷◌, ◌++◌, map, length, Some, None, Option, sym, refl, ap, ◌∙◌, mul-add, arith}
 use mathlib.Core.List.{Permᴰ}
 use Rattle.std.proofs.lemmas.Bool.{lt-ltb, le-ltb}
 use Rattle.std.proofs.lemmas.List.{length-map}
 use Rattle.std.proofs.lemmas.List.Sums.{fold_push}
 use Rattle.tally.proofs.Sameness.{Same}
-use Rattle.cells.specs.Cells.{capped, cells_after, counted, entered, first, is_free, level_after, rule_for, taken_by, worn}
+use Rattle.cells.specs.Cells.{capped, cells_after, counted, first, is_free, level_after, rule_for, taken_by, worn}
 use Rattle.keys.specs.OfKey.{of_key}
 use Rattle.cells.specs.MisraGries.{Summary, decremented, has_counter, incremented, misra_gries, not_zero, less_one, with_arrival}
-use Rattle.cells.specs.Vouched.{Absent, Ran, Sound, Vouched, counted_keys, counters}
+use Rattle.cells.specs.Vouched.{Absent, Ran, counted_keys, counters}
 use Rattle.cells.specs.declared.cell.Cell.{Cell}
-use Rattle.cells.specs.declared.cell.Cell.TheVariants.{Free, Held}
+use Rattle.cells.specs.declared.cell.Cell.TheVariants.{Held}
 use Rattle.cells.specs.declared.cell.Slot.{Slot}
 use Rattle.cells.proofs.Bounds.{level_share}
 use Rattle.cells.proofs.ByRule.{by_rule}

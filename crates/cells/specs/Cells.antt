@@ -2,7 +2,6 @@ use Rattle.std.specs.Prelude.{ℕ, ◌+◌, min, Bool, true, false, cond, List, 
 use Rattle.std.specs.Option.{unwrap_or}
 use Rattle.cells.specs.declared.cell.Cell.{Cell}
 use Rattle.cells.specs.declared.cell.Cell.TheVariants.{Free, Held}
-use Rattle.cells.specs.declared.cell.Slot.{Slot}
 use Rattle.cells.specs.declared.rule.Rule.{Rule}
 use Rattle.cells.specs.declared.rule.Rule.TheVariants.{Count, Enter, Raise}
 

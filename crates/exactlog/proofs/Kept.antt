@@ -1,6 +1,6 @@
 -- a log keeps its latest arrivals
-use Rattle.std.proofs.Common.{◌≡◌, ℕ, suc, ◌+◌, ◌-◌, ◌<◌, ◌≤◌, min, Bool, true, false, cond, ltb, List, [], ◌∷◌, ◌++◌, map, length, take, drop, set, sym, refl, ap, ◌∙◌, ⊎_elim, add-one, arith}
-use Rattle.std.proofs.lemmas.List.{append_assoc, append-nil, drop_all, drop-append-le, drop-drop, drop-map, drop_more, drop-set-lt, length-drop, length_push, length-set, length-take, map-append, set-append_left, take_all, take-append-drop, take_at, take_more_set, take-take}
+use Rattle.std.proofs.Common.{◌≡◌, ℕ, ◌+◌, ◌-◌, ◌<◌, ◌≤◌, min, List, [], ◌∷◌, ◌++◌, map, length, take, drop, set, sym, refl, ap, ◌∙◌, ⊎_elim, arith}
+use Rattle.std.proofs.lemmas.List.{append_assoc, append-nil, drop_all, drop-append-le, drop-drop, drop-map, drop-set-lt, length-drop, length_push, length-set, length-take, map-append, set-append_left, take_all, take-append-drop, take_at, take_more_set}
 use Rattle.std.proofs.lemmas.Bool.{cases_lt, le-ltb, lt-ltb}
 use Rattle.tally.proofs.Counts.{latest_all}
 use Rattle.tally.specs.Arrivals.{latest}

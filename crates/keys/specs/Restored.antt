@@ -1,5 +1,5 @@
-use Rattle.std.specs.Prelude.{◌≡◌, ℕ, zero, suc, ◌<◌, Some, None, Option, refl}
-use Rattle.std.proofs.Common.{sym, ap, ◌∙◌, suc-le-suc, zero-le, arith}
+use Rattle.std.specs.Prelude.{◌≡◌, ℕ, zero, suc, ◌<◌, Some, Option}
+use Rattle.std.proofs.Common.{ap, suc-le-suc, zero-le, arith}
 use Rattle.std.proofs.Math.Bridge.{le_prop}
 use Rattle.keys.specs.declared.reader.Reader.{Reader}
 use Rattle.keys.specs.Readers.{reader_of}

@@ -1,4 +1,4 @@
-use Rattle.std.specs.Prelude.{◌≡◌, ℕ, ◌+◌, min, Bool, true, cond, leb, List, length, Some, Option}
+use Rattle.std.specs.Prelude.{◌≡◌, ℕ, ◌+◌, min, Bool, true, cond, List, length, Some, Option}
 use Rattle.tally.specs.Arrivals.{occurs}
 
 -- the ends of a range over those below: the watched key has its own count w for both while the whole run is within reach, and

@@ -1,5 +1,5 @@
 -- a badge listing that is given is right of every list that the table accounts for
-use Rattle.std.proofs.Common.{◌≡◌, ℕ, zero, suc, ◌+◌, ◌-◌, ◌*◌, ◌/◌, ◌%◌, ◌<◌, ◌≤◌, min, Bool, true, false, cond, ◌&&◌, ◌||◌, eqb, leb, List, [], ◌∷◌, ◌++◌, length, get_or, Some, None, Option, sym, refl, ap, ◌∙◌, ⊎_elim, mul-le-mul_right, mul_comm, add-mul, div-add-mod', mul-add, arith}
+use Rattle.std.proofs.Common.{◌≡◌, ℕ, zero, suc, ◌+◌, ◌-◌, ◌*◌, ◌/◌, ◌%◌, ◌<◌, ◌≤◌, Bool, true, false, ◌&&◌, ◌||◌, eqb, leb, List, [], ◌∷◌, ◌++◌, length, get_or, Some, None, Option, sym, refl, ap, ◌∙◌, ⊎_elim, mul-le-mul_right, mul_comm, add-mul, div-add-mod', mul-add, arith}
 use Rattle.badgetable.proofs.Covered.{both_same, held_covers, row_ends_are, row_plain, row_seen, shown_length, shown_long}
 use Rattle.badgetable.proofs.Rooms.{row_room}
 use Rattle.badgetable.specs.Shown.{Covers, badge_count, both_alike, correlated_heavy_hitter, reader_count, readers_of}
@@ -18,7 +18,7 @@ use Rattle.keys.specs.Shares.{is_share, passes}
 use Rattle.keys.specs.declared.key.Key.{Ghosts as KeyKind}
 use Rattle.listings.proofs.ReaderLaws.{passes_more}
 use Rattle.listings.specs.Listings.{badge_high, badge_listing, badge_place, badge_row, badge_rows, is_fine, is_listed, some}
-use Rattle.listings.specs.Right.{Given, Measure, OnceBadges, RightBadgeRow, RightBadgeRows, RightBadges, is_of, measure_of, names_badge}
+use Rattle.listings.specs.Right.{Given, Measure, OnceBadges, RightBadgeRows, RightBadges, is_of, measure_of, names_badge}
 use Rattle.listings.specs.declared.row.BadgeRow.{BadgeRow}
 use Rattle.pages.specs.Listed.{listed}
 use Rattle.parts.proofs.Areas.{length_part}

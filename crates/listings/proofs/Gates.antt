@@ -1,5 +1,5 @@
 -- a listing behind a gate that lets it through
-use Rattle.std.proofs.Common.{◌≡◌, ℕ, ◌≤◌, true, false, leb, List, length, Ok, Err, Result, sym, refl, ap, ◌∙◌, ⊎_elim, arith}
+use Rattle.std.proofs.Common.{◌≡◌, ℕ, ◌≤◌, true, false, leb, List, length, Ok, Result, refl, ap, ◌∙◌, ⊎_elim, arith}
 use Rattle.pages.specs.Listed.{counted, fitted, page_after}
 use Rattle.std.proofs.lemmas.Bool.{cases_Bool, le-leb}
 use Rattle.listings.specs.Listings.{passed, written}

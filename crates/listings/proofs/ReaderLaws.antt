@@ -1,20 +1,20 @@
 -- a reader listing that is given is right of every list that the tally vouches for
-use Rattle.std.proofs.Common.{◌≡◌, ℕ, zero, suc, ◌+◌, ◌*◌, ◌<◌, ◌≤◌, min, Bool, true, false, cond, not, ◌&&◌, ◌||◌, ltb, List, [], ◌∷◌, ◌++◌, Some, None, Option, sym, refl, ap, ◌∙◌, ⊎_elim, mul-le-mul_right, arith}
+use Rattle.std.proofs.Common.{◌≡◌, ℕ, zero, suc, ◌+◌, ◌*◌, ◌≤◌, Bool, true, false, not, ◌&&◌, ◌||◌, List, [], ◌∷◌, ◌++◌, Some, None, Option, sym, refl, ◌∙◌, ⊎_elim, mul-le-mul_right, arith}
 use Rattle.keys.specs.OfKey.{of_key}
 use Rattle.keys.specs.Shares.{passes}
 use Rattle.keys.specs.declared.key.Key.{Ghosts as KeyKind}
 use Rattle.pages.specs.Listed.{listed}
 use Rattle.std.proofs.lemmas.List.{append-nil}
-use Rattle.std.proofs.lemmas.Bool.{and_parts, both_ways, cases_Bool, lt-ltb, ltb-false, ltb-true, not-true, or_cases, or_from, or_left, or_parts, or_right}
+use Rattle.std.proofs.lemmas.Bool.{and_parts, both_ways, cases_Bool, lt-ltb, ltb-true, not-true, or_cases, or_from, or_left, or_right}
 use Rattle.std.specs.Option.{option_to_list}
 use Rattle.tally.proofs.Counts.{occurs_alike}
 use Rattle.tally.proofs.OfKey.{of_key_at}
 use Rattle.tally.proofs.Sameness.{Same, alike_eq}
-use Rattle.tally.specs.Arrivals.{heavy_hitter, latest, occurs, true_count}
+use Rattle.tally.specs.Arrivals.{latest, true_count}
 use Rattle.tally.specs.Owed.{Contains, held_below, holds}
 use Rattle.tally.specs.declared.Tally.{Ghosts as TallyKind}
 use Rattle.listings.specs.Listings.{reader_row, reader_rows, row_held, within}
-use Rattle.listings.specs.Right.{Once, RightRange, RightReaders, RightRow, RightRows, names}
+use Rattle.listings.specs.Right.{Once, RightReaders, RightRows, names}
 use Rattle.listings.specs.declared.row.ReaderRow.{ReaderRow}
 
 -- what is more passes a share that less of it passes

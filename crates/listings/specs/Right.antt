@@ -1,4 +1,4 @@
-use Rattle.std.specs.Prelude.{◌≡◌, ℕ, ◌+◌, ◌-◌, ◌/◌, ◌≤◌, min, Bool, true, false, ◌&&◌, ◌||◌, List, [], ◌∷◌, length, Some, Ok, Err, Option, Result}
+use Rattle.std.specs.Prelude.{◌≡◌, ℕ, ◌+◌, ◌-◌, ◌/◌, ◌≤◌, min, Bool, true, false, ◌&&◌, ◌||◌, List, [], ◌∷◌, length, Some, Ok, Err, Result}
 use Rattle.badgetable.specs.Shown.{Covers, badge_count, correlated_heavy_hitter, reader_count}
 use Rattle.badgetable.specs.Tables.{cell_count, row_count}
 use Rattle.badgetable.specs.declared.table.BadgeTable.{BadgeTable}

@@ -1,5 +1,5 @@
 -- from what a tally promises to what is right of the book
-use Rattle.std.proofs.Common.{◌≡◌, ℕ, ◌+◌, ◌≤◌, min, Bool, true, false, cond, not, ◌&&◌, ◌||◌, leb, List, length, Some, Option, Result, sym, refl, ap, ◌∙◌, subst, ⊎_elim, arith}
+use Rattle.std.proofs.Common.{◌≡◌, ℕ, ◌+◌, ◌≤◌, min, true, false, leb, List, length, Some, Result, ap, ⊎_elim, arith}
 use Rattle.keys.specs.Shares.{is_share, passes}
 use Rattle.keys.specs.declared.key.Key.{Ghosts as KeyKind}
 use Rattle.listings.proofs.ReaderLaws.{passes_more, readers_right}

@@ -1,5 +1,5 @@
 -- both listings as one report
-use Rattle.std.proofs.Common.{◌≡◌, ℕ, min, List, length, Some, None, Ok, Err, Option, Result, sym, refl, ap, ◌∙◌}
+use Rattle.std.proofs.Common.{◌≡◌, ℕ, min, List, Some, Ok, Err, Result, sym, refl, ap, ◌∙◌}
 use Rattle.badgetable.specs.declared.table.BadgeTable.{BadgeTable}
 use Rattle.keys.specs.declared.key.Key.{Ghosts as KeyKind}
 use Rattle.keys.specs.declared.share.Fraction.{Fraction}

@@ -1,5 +1,5 @@
 -- a query as one call of a run: it leaves the tally, the badge table and the book as they were
-use Rattle.std.proofs.Common.{◌≡◌, Some, None, Option, refl}
+use Rattle.std.proofs.Common.{◌≡◌, Some, None, Option}
 use Rattle.badgetable.specs.declared.table.BadgeTable.{BadgeTable}
 use Rattle.keys.specs.declared.key.Key.{Ghosts as KeyKind}
 use Rattle.meter.specs.Book.{Agrees, Book, after}

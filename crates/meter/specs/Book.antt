@@ -1,4 +1,4 @@
-use Rattle.std.specs.Prelude.{ℕ, Bool, cond, ◌||◌, List, [], ◌∷◌, ◌++◌, length, Some, None, Option, ◌==◌}
+use Rattle.std.specs.Prelude.{Bool, cond, ◌||◌, List, [], ◌∷◌, ◌++◌, length, Some, None, Option, ◌==◌}
 use Rattle.badgetable.specs.Tables.{accounts_for}
 use Rattle.badgetable.specs.declared.table.BadgeTable.{BadgeTable}
 use Rattle.keys.specs.declared.key.Key.{Ghosts as KeyKind}

@@ -5,7 +5,7 @@ use Rattle.badgetable.specs.Tables.{Emptied, Noted, arrivals_in, cell_count, row
 use Rattle.badgetable.specs.declared.table.BadgeTable.{BadgeTable}
 use Rattle.keys.specs.OfKey.{of_key}
 use Rattle.keys.specs.Refusals.{number_of}
-use Rattle.keys.specs.Shares.{is_share, passes}
+use Rattle.keys.specs.Shares.{is_share}
 use Rattle.keys.specs.declared.key.Key.{Ghosts as KeyKind}
 use Rattle.keys.specs.declared.refusal.Refusal.TheVariants.{ImpossibleShare, RunFull}
 use Rattle.keys.specs.declared.share.Fraction.{Fraction}

@@ -1,21 +1,19 @@
 -- what a ring that vouches for a list owes: ranges, width and ceiling
-use Rattle.std.proofs.Common.{◌≡◌, ℕ, zero, suc, ◌+◌, ◌-◌, ◌*◌, ◌/◌, ◌%◌, ◌<◌, ◌≤◌, min, Bool, true, false, cond, ◌&&◌, eqb, ltb, leb, ◌⊎◌, List, [], ◌∷◌, ◌++◌, length, get_or, Option, sym, refl, ap, ◌∙◌, inl, inr, ⊎_elim, mul-le-mul_right, suc-mul, mul_comm, add-mul, add-one, arith}
+use Rattle.std.proofs.Common.{◌≡◌, ℕ, zero, suc, ◌+◌, ◌*◌, ◌/◌, ◌<◌, ◌≤◌, min, Bool, false, cond, eqb, ◌⊎◌, List, ◌++◌, length, Option, sym, refl, ap, ◌∙◌, inl, inr, ⊎_elim, mul-le-mul_right, suc-mul, mul_comm, add-mul, add-one, arith}
 use Rattle.std.proofs.lemmas.Nat.{div-mul-add, le-div, mod-mul-add, mul-le}
 use Rattle.std.proofs.lemmas.List.{append_assoc, length-append}
 use Rattle.std.proofs.lemmas.Bool.{cases_lt, cond_both, eq-eqb, le-leb, lt-ltb}
 use Rattle.cells.proofs.Bounds.{absent_from, high_covered, narrow}
 use Rattle.cells.proofs.Kept.{level_below}
 use Rattle.cells.proofs.Ranges.{ends_absent}
-use Rattle.cells.specs.Cells.{capped, ends, key_at, key_in}
-use Rattle.cells.specs.Vouched.{Vouched, counters}
+use Rattle.cells.specs.Cells.{key_at}
 use Rattle.cells.specs.declared.cell.Cell.{Cell}
-use Rattle.cells.specs.declared.cell.Cell.TheVariants.{Free}
 use Rattle.keys.specs.OfKey.{of_key}
 use Rattle.tally.proofs.Counts.{held_nowhere}
 use Rattle.tally.specs.Arrivals.{occurs, true_count}
 use Rattle.tally.specs.Owed.{Contains, held_below, holds}
 use Rattle.panering.specs.Panes.{high_back, inside, kept, level_back, low_back, pane_back, ring_high, ring_key, ring_low, ring_reach, ring_spots, ring_top, ring_width, slot_back, sum_below}
-use Rattle.panering.specs.Ringed.{Ringed, Sized, size_back, stretch}
+use Rattle.panering.specs.Ringed.{Ringed, size_back, stretch}
 use Rattle.panering.specs.declared.shape.Shape.{Shape}
 use Rattle.panering.proofs.Areas.{length_pane, slot_room}
 use Rattle.panering.proofs.Slots.{slot_below}

@@ -1,5 +1,5 @@
 -- a ring that vouches for a list vouches for it with one arrival more
-use Rattle.std.proofs.Common.{◌≡◌, ℕ, zero, suc, ◌+◌, ◌-◌, ◌*◌, ◌<◌, ◌≤◌, min, Bool, true, false, cond, eqb, List, [], ◌∷◌, ◌++◌, map, length, get_or, take, drop, set, replicate, Some, Option, sym, refl, ap, ◌∙◌, ⊎_elim, add-one, arith}
+use Rattle.std.proofs.Common.{◌≡◌, ℕ, zero, suc, ◌+◌, ◌-◌, ◌*◌, ◌<◌, ◌≤◌, min, Bool, true, false, List, [], ◌∷◌, ◌++◌, length, get_or, take, set, replicate, Some, Option, sym, refl, ap, ◌∙◌, ⊎_elim, add-one, arith}
 use Rattle.std.proofs.lemmas.List.{append_assoc, drop-replicate, get_or-replicate, get_or-set_other, get_or-set_same, length-map, length_push, length-replicate, length-set, take-replicate}
 use Rattle.std.proofs.lemmas.Bool.{cases_Bool, cases_lt, leb-false, leb-true}
 use Rattle.cells.proofs.Cleared.{cleared_vouches}

@@ -1,12 +1,11 @@
 -- lists of bits: how they are cut, and what they make
-use Rattle.std.proofs.Common.{◌≡◌, ℕ, zero, suc, ◌+◌, ◌*◌, ◌/◌, ◌%◌, ◌^◌, ◌<◌, ◌≤◌, List, [], ◌∷◌, ◌++◌, length, take, drop, sum, sym, refl, ap, ◌∙◌, ⊎_elim, mul_assoc, mul_comm, add-mul, add_comm, suc-add, pow-suc, zero-add, one-add, arith}
+use Rattle.std.proofs.Common.{◌≡◌, ℕ, zero, suc, ◌+◌, ◌*◌, ◌/◌, ◌%◌, ◌^◌, ◌<◌, ◌≤◌, ◌∷◌, ◌++◌, length, take, drop, sum, sym, refl, ap, ◌∙◌, ⊎_elim, mul_assoc, mul_comm, add-mul, add_comm, suc-add, pow-suc, zero-add, one-add, arith}
 use lib.Count.{ones, ones_cat}
 use Rattle.std.proofs.lemmas.Nat.{shr-shr, mod-pow-add, pow_pos, mod_below}
-use Rattle.std.proofs.lemmas.Int.Digits.{number_after_append}
 use Rattle.std.proofs.lemmas.List.Sums.{sum_by-cons}
 use Rattle.std.proofs.lemmas.List.{take_at, drop_at}
 use Rattle.std.proofs.lemmas.Bool.{cases_lt}
-use Rattle.std.specs.Int.Digits.{number_from_digits, number_from_digits_after}
+use Rattle.std.specs.Int.Digits.{number_from_digits_after}
 use Rattle.records.specs.Frames.{bits}
 
 pub length_bits : (n f : ℕ) → length (bits n f) ≡ n

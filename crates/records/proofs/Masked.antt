@@ -5,7 +5,7 @@ use lib.Count.{ones, ones_cat}
 use Rattle.std.proofs.lemmas.Nat.{and_mask, or_shifted}
 use Rattle.keys.specs.declared.badge.Badge.{Badge}
 use Rattle.records.specs.Frames.{first_thirteen, last_thirteen, badge_in, badge_bits, even_bit, odd_bit}
-use Rattle.records.proofs.Framed.{Held, first_ones, last_ones, badge_is, framed, first_bit_is, last_bit_is}
+use Rattle.records.proofs.Framed.{Held, first_ones, last_ones, badge_is, first_bit_is, last_bit_is}
 
 pub first_masked : (f : ℕ) → ones (bit_and (f / 8192) 8191) ≡ sum (first_thirteen f)
 first_masked f = ap ones (and_mask (f / 8192) 13) ∙ sym (first_ones f)

@@ -1,4 +1,4 @@
-use Rattle.std.specs.Prelude.{◌≡◌, ℕ, zero, suc, ◌+◌, ◌≤◌, Bool, true, false, ◌||◌, List, Some, None, Option}
+use Rattle.std.specs.Prelude.{ℕ, zero, suc, ◌≤◌, Bool, false, ◌||◌, List, Some, None, Option}
 use Rattle.tally.specs.Arrivals.{true_count}
 
 -- the most arrivals that a tally counts between clears, and the bound of every end, width and ceiling

@@ -1,4 +1,4 @@
-use Rattle.std.proofs.Common.{arith, rules}
+use Rattle.std.proofs.Common.{arith}
 use Rattle.badgetable.proofs.Rooms.{rows_room}
 use Rattle.badgetable.proofs.row.all_cells.Goals as goal
 

@@ -1,4 +1,4 @@
-use Rattle.std.proofs.Common.{◌≡◌, sym, ◌∙◌, rules}
+use Rattle.std.proofs.Common.{◌∙◌}
 use Rattle.cells.proofs.Bounds.{contains_pair}
 use Rattle.cells.proofs.Ends.{ends_next, ends_here, ends_end}
 use Rattle.cells.proofs.each.find_ends.Goals as goal

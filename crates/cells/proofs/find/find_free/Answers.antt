@@ -1,4 +1,4 @@
-use Rattle.std.proofs.Common.{◌≡◌, sym, ◌∙◌, rules}
+use Rattle.std.proofs.Common.{◌∙◌, rules}
 use Rattle.cells.proofs.Firsts.{first_next, first_here, first_end}
 use Rattle.cells.proofs.find.find_free.Goals as goal
 

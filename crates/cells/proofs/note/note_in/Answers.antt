@@ -1,4 +1,3 @@
-use Rattle.std.proofs.Common.{rules}
 use Rattle.tally.proofs.Sameness.{same_of}
 use Rattle.cells.proofs.Kept.{note_kept}
 use Rattle.cells.proofs.Runs.{note_ran}

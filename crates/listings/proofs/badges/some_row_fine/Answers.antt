@@ -1,4 +1,4 @@
-use Rattle.std.proofs.Common.{◌≡◌, ◌∙◌, arith}
+use Rattle.std.proofs.Common.{◌∙◌, arith}
 use Rattle.cells.specs.declared.cell.Cell.TheVariants.{Free}
 use Rattle.listings.proofs.Somes.{some_end, some_here, some_next}
 use Rattle.listings.proofs.badges.some_row_fine.Goals as goal

@@ -1,4 +1,4 @@
-use Rattle.std.proofs.Common.{◌≡◌, ◌||◌, eqb, sym, refl, ap, ◌∙◌}
+use Rattle.std.proofs.Common.{sym}
 use Rattle.meter.proofs.Events.{both_full}
 use Rattle.meter.proofs.event.is_full.Goals as goal
 

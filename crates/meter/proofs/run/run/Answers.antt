@@ -1,4 +1,4 @@
-use Rattle.std.proofs.Common.{◌≡◌, ◌+◌, ◌≤◌, [], ◌∷◌, ◌++◌, vec_items, sym, refl, ap, ◌∙◌, arith, rules}
+use Rattle.std.proofs.Common.{◌+◌, [], ◌∷◌, ◌++◌, vec_items, sym, refl, ap, ◌∙◌, arith, rules}
 use Rattle.meter.proofs.Batches.{agrees_next, batch_none, batch_of, pushed, run_next}
 use Rattle.meter.proofs.run.run.Goals as goal
 use Rattle.std.proofs.lemmas.List.{append-nil, length_push}

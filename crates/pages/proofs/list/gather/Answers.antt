@@ -1,4 +1,3 @@
-use Rattle.std.proofs.Common.{rules}
 use Rattle.pages.proofs.Lists.{gather_next}
 use Rattle.pages.proofs.list.gather.Goals as goal
 

@@ -1,5 +1,4 @@
-use Rattle.std.proofs.Common.{◌+◌, ◌<◌, ◌≤◌, length, arith}
-use Rattle.std.specs.Option.{option_to_list}
+use Rattle.std.proofs.Common.{length, arith}
 use Rattle.pages.proofs.Lists.{length_next, length_of, room, put_next}
 use Rattle.pages.proofs.list.write.Goals as goal
 

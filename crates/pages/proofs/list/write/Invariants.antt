@@ -1,4 +1,4 @@
-use Rattle.std.proofs.Common.{◌≡◌, ◌≤◌, length}
+use Rattle.std.proofs.Common.{◌≡◌, length}
 use Rattle.pages.specs.Listed.{listed, over}
 use Rattle.pages.proofs.list.write.Given as goal
 

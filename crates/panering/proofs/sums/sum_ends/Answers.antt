@@ -1,4 +1,4 @@
-use Rattle.std.proofs.Common.{◌≡◌, ap, ◌∙◌}
+use Rattle.std.proofs.Common.{◌∙◌}
 use Rattle.keys.specs.OfKey.{of_key}
 use Rattle.panering.proofs.Stretches.{both_more}
 use Rattle.panering.proofs.sums.sum_ends.Goals as goal

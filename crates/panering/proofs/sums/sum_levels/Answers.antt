@@ -1,4 +1,4 @@
-use Rattle.std.proofs.Common.{◌≡◌, get_or, ap, ◌∙◌}
+use Rattle.std.proofs.Common.{get_or, ap, ◌∙◌}
 use Rattle.panering.proofs.Stretches.{capped_more}
 use Rattle.panering.proofs.sums.sum_levels.Goals as goal
 use Rattle.panering.specs.Panes.{level_back}

@@ -1,4 +1,4 @@
-use Rattle.std.proofs.Common.{◌≡◌, ℕ, ◌+◌, ap, ◌∙◌, rules}
+use Rattle.std.proofs.Common.{ℕ, ◌+◌, ap, ◌∙◌, rules}
 use Rattle.badgetable.proofs.Entered.{cells_joined, rows_joined}
 use Rattle.badgetable.proofs.Noted.{shown_moved}
 use Rattle.badgetable.proofs.table.BadgeTable.add.Goals as goal

@@ -1,4 +1,4 @@
-use Rattle.std.proofs.Common.{arith, rules}
+use Rattle.std.proofs.Common.{arith}
 use Rattle.badgetable.proofs.Covered.{shown_length}
 use Rattle.badgetable.proofs.table.BadgeTable.arrivals.Goals as goal
 use Rattle.tally.proofs.Sameness.{same_of}

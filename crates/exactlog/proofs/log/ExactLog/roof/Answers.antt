@@ -1,4 +1,4 @@
-use Rattle.std.proofs.Common.{◌≤◌, refl, arith}
+use Rattle.std.proofs.Common.{refl, arith}
 use Rattle.exactlog.proofs.Exact.{exact_contains, missed_none}
 use Rattle.tally.proofs.Sameness.{same_of}
 use Rattle.exactlog.proofs.log.ExactLog.roof.Goals as goal

@@ -1,4 +1,4 @@
-use Rattle.std.proofs.Common.{◌≡◌, ◌≤◌, min, leb, refl, ◌∙◌}
+use Rattle.std.proofs.Common.{◌≡◌, min, leb, refl, ◌∙◌}
 use Rattle.keys.specs.OfKey.{of_key}
 use Rattle.layers.proofs.Watching.{watched_contains}
 use Rattle.layers.specs.Watched.{high_of, low_of}

@@ -1,6 +1,5 @@
 use Rattle.layers.proofs.Watching.{watched_contains, watched_missed}
 use Rattle.tally.proofs.Sameness.{same_of}
-use Rattle.std.proofs.Common.{refl, rules}
 use Rattle.layers.proofs.watch.Watch.roof.Goals as goal
 
 pub returns : goal.returns
