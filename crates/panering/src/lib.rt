@@ -1,6 +1,7 @@
 // The pane ring: a tally of the latest arrivals, in panes that are count tables.
 #![tactic(auto)]
 
+pub mod as_tally;
 pub mod count;
 pub mod open;
 mod panes;
@@ -8,6 +9,5 @@ mod query;
 pub mod ring;
 pub mod shape;
 mod sums;
-pub mod tally;
 #[cfg(test)]
 mod tests;
