@@ -39,7 +39,8 @@ impl Fraction {
     pub fn passed_by(self, part: u32, whole: u32) -> bool
         ensures { result ≡ passes self.p self.q part whole }
     {
-        u64::from(part) * u64::from(self.q) > u64::from(self.p) * u64::from(whole)
+        let (part, whole) = (u64::from(part), u64::from(whole));
+        part * u64::from(self.q) > whole * u64::from(self.p)
     }
 }
 
@@ -48,7 +49,7 @@ impl Share {
     pub fn passed_by(self, part: u32, whole: u32) -> bool
         ensures { result ≡ passes self.p self.q part whole }
     {
-        self.fraction().passed_by(part, whole)
+        u64::from(part) * u64::from(self.q) > u64::from(self.p) * u64::from(whole)
     }
 
     // The two numbers of the share.
