@@ -4,7 +4,7 @@
 usage: python3 tools/respell.py     at the top of the repository, once, after the kit's port.py
 
 A name is the repository's own if a file of specs/ or proofs/ declares it. Names that Rattle makes
-(goals, invariants, parts of a path) are left as they are, and so are strings and src/'s own names.
+(goals, invariants, parts of a path) are left as they are, and so are src/'s own names, which have no '-'.
 """
 
 import os
