@@ -5,7 +5,6 @@ use Rattle.std.proofs.lemmas.List.{map_push}
 use Rattle.std.proofs.lemmas.List.Sums.{sum_by-cons}
 use Rattle.std.proofs.lemmas.Bool.{cases_Bool}
 use Rattle.tally.proofs.Counts.{occurs_other, occurs_same}
-use Rattle.tally.specs.Arrivals.{occurs}
 
 abbrev one : Bool → ℕ
 one b = cond b 1 0
@@ -13,9 +12,6 @@ one b = cond b 1 0
 at_most_one : (b : Bool) → one b ≤ 1
 at_most_one true = omega arith
 at_most_one false = omega arith
-
-in_front : {K : Type 0} (alike : K → K → Bool) (k j : K) (xs : List K) → occurs alike k (j ∷ xs) ≡ one (alike k j) + occurs alike k xs
-in_front alike k j xs = sum_by-cons (λ z. one (alike k z)) j xs
 
 module _ {A B : Type 0} (x : A → A → Bool) (y : B → B → Bool) where
   pub readers_push : (ps : List (A × B)) (a : A) (b : B) → readers_of (ps ++ (a, b) ∷ []) ≡ readers_of ps ++ a ∷ []
@@ -26,8 +22,8 @@ module _ {A B : Type 0} (x : A → A → Bool) (y : B → B → Bool) where
   badge_part a b [] = omega arith
   badge_part a b (p ∷ ps) =
       let h = badge_part a b ps in
-      let whole = in_front x a p.0 (readers_of ps) in
-      let both = in_front (both_alike x y) (a, b) p ps in
+      let whole = sum_by-cons (λ z. one (x a z)) p.0 (readers_of ps) in
+      let both = sum_by-cons (λ z. one (both_alike x y (a, b) z)) p ps in
       ⊎_elim
       (λ (t : x a p.0 ≡ true). let c = ap one t in let d = at_most_one (both_alike x y (a, b) p) in omega (arith, whole, both, c, d, h))
       (λ (t : x a p.0 ≡ false). let d : one (both_alike x y (a, b) p) ≡ 0 = rw t refl in omega (arith, whole, both, d, h))

@@ -1,12 +1,17 @@
 -- what is left of a sweep, row by row
-use Rattle.std.proofs.Common.{◌≡◌, ℕ, ◌+◌, ◌<◌, ◌≤◌, List, length, get_or, drop, refl}
-use Rattle.std.proofs.lemmas.List.{drop_all, drop_more}
+use Rattle.std.proofs.Common.{◌≡◌, ℕ, ◌+◌, ◌<◌, Bool, true, false, not, if◌then◌else◌, List, length, get_or, drop, refl, arith, is_some, Some, None}
+use Rattle.std.proofs.lemmas.List.{drop_more}
 use Rattle.badgetable.specs.Rows.{swept, swept_row}
-use Rattle.cells.specs.declared.cell.Cell.{Cell}
+use Rattle.cells.specs.Cells.{Cell, emptied}
+use Rattle.parts.specs.Parts.{with_part}
 
-module _ {R S : Type 0} (j : ℕ) (rows : List (Cell R ℕ)) (i : ℕ) where
-  pub sweep_next : (read : List (Cell R ℕ)) (d : Cell R ℕ) (cs ds : List (Cell S (Unit {0}))) → read ≡ rows → i < length rows → ds ≡ swept_row j i (get_or read i d) cs → swept j (i + 1) (drop (i + 1) rows) ds ≡ swept j i (drop i rows) cs
-  sweep_next read d cs ds e l f = rw (drop_more rows i d l, f, e) refl
+module _ {R S : Type 0} (j i : ℕ) where
+  row_swept : (row : Cell R ℕ) (free : Bool) (cs ds : List (Cell S (Unit {0}))) → is_some row ≡ not free → ds ≡ (if free then with_part j i emptied cs else cs) → ds ≡ swept_row j i row cs
+  row_swept None true cs ds e f = f
+  row_swept None false cs ds e f = let z : ◌≡◌ {A = ℕ} 0 1 = cc in absurd (omega arith)
+  row_swept (Some s) true cs ds e f = let z : ◌≡◌ {A = ℕ} 0 1 = cc in absurd (omega arith)
+  row_swept (Some s) false cs ds e f = f
 
-  pub sweep_end : (cs : List (Cell S (Unit {0}))) → length rows ≤ i → cs ≡ swept j i (drop i rows) cs
-  sweep_end cs l = rw (drop_all i rows l) refl
+  pub sweep_next : (rows read : List (Cell R ℕ)) (d : Cell R ℕ) (free : Bool) (cs ds : List (Cell S (Unit {0}))) → read ≡ rows → i < length rows → is_some (get_or read i d) ≡ not free → ds ≡ (if free then with_part j i emptied cs else cs) → swept j (i + 1) (drop (i + 1) rows) ds ≡ swept j i (drop i rows) cs
+  sweep_next rows read d free cs ds e l test f =
+      rw (drop_more rows i d l, row_swept (get_or read i d) free cs ds test f, e) refl

@@ -1,7 +1,6 @@
-use Rattle.std.specs.Prelude.{ℕ, ◌+◌, Bool, cond, List, [], ◌∷◌, length, Some, None, Option, slice_index_or, slice_set}
-use Rattle.cells.specs.Cells.{capped, cells_after, emptied, ends, first, is_free, level_after, rule_for, taken_by, with_beside}
-use Rattle.cells.specs.declared.cell.Cell.{Cell}
-use Rattle.cells.specs.declared.cell.Cell.TheVariants.{Free, Held}
+use Rattle.std.specs.Prelude.{ℕ, ◌+◌, Bool, if◌then◌else◌, List, [], ◌∷◌, length, Some, None, Option, slice_index_or, slice_set, is_none}
+use Rattle.std.specs.List.{position_from}
+use Rattle.cells.specs.Cells.{Cell, capped, cells_after, emptied, ends, level_after, rule_for, taken_by, with_beside}
 use Rattle.cells.specs.declared.rule.Rule.{Rule}
 use Rattle.cells.specs.declared.rule.Rule.TheVariants.{Count, Enter, Raise}
 use Rattle.parts.specs.Parts.{part, with_part}
@@ -13,13 +12,13 @@ use Rattle.badgetable.specs.Plans.{cells_a_row}
 module _ {R : Type 0} where
   -- the level E of a row; 0 of a free one
   abbrev pub badge_level : Cell R ℕ → ℕ
-  badge_level Free = 0
-  badge_level (Held s) = s.beside
+  badge_level None = 0
+  badge_level (Some s) = s.beside
 
 module _ {R S : Type 0} (j : ℕ) where
   -- the badge cells of a free row are free
   abbrev pub swept_row : ℕ → Cell R ℕ → List (Cell S (Unit {0})) → List (Cell S (Unit {0}))
-  swept_row i row cs = cond (is_free row) (with_part j i emptied cs) cs
+  swept_row i row cs = if is_none row then with_part j i emptied cs else cs
 
   -- and so for the rows from row i on
   abbrev pub swept : ℕ → List (Cell R ℕ) → List (Cell S (Unit {0})) → List (Cell S (Unit {0}))
@@ -30,11 +29,11 @@ module _ {R S : Type 0} (is : S → Bool) (s : S) (j : ℕ) where
   -- a badge enters the badge table of row i: its cells, and its level
   abbrev pub cells_shown : List (Cell R ℕ) → List (Cell S (Unit {0})) → ℕ → List (Cell S (Unit {0}))
   cells_shown rows cs i =
-      with_part j i (λ p. cells_after (badge_level (slice_index_or rows i Free)) s tt p (rule_for is p)) cs
+      with_part j i (λ p. cells_after (badge_level (slice_index_or rows i None)) s tt p (rule_for is p)) cs
 
   abbrev pub rows_shown : List (Cell R ℕ) → List (Cell S (Unit {0})) → ℕ → List (Cell R ℕ)
   rows_shown rows cs i =
-      slice_set rows i (with_beside (level_after (badge_level (slice_index_or rows i Free)) (rule_for is (part j i cs))) (slice_index_or rows i Free))
+      slice_set rows i (with_beside (level_after (badge_level (slice_index_or rows i None)) (rule_for is (part j i cs))) (slice_index_or rows i None))
 
   -- the badge of an arrival that met a rule: a row that counts the arrival counts the badge, a new row from an empty badge
   -- table on; where no row does, no badge is stored, and rows that were freed have their badge cells freed
@@ -65,14 +64,14 @@ module _ {R S : Type 0} (of : R → Bool) (is : S → Bool) (r : R) (s : S) (lev
 module _ {R S : Type 0} (is : S → Bool) (level : ℕ) where
   -- a badge's range in a row: what its badge table says, and the row's mark on top; without a row 0 to D
   abbrev pub row_ends : Cell R ℕ → List (Cell S (Unit {0})) → ℕ × ℕ
-  row_ends Free p = (0, level)
-  row_ends (Held s) p = ((ends is s.beside p).0, capped ((ends is s.beside p).1 + s.mark))
+  row_ends None p = (0, level)
+  row_ends (Some s) p = ((ends is s.beside p).0, capped ((ends is s.beside p).1 + s.mark))
 
   abbrev pub ends_at : ℕ → List (Cell R ℕ) → List (Cell S (Unit {0})) → Option ℕ → ℕ × ℕ
   ends_at j rows cs None = (0, level)
-  ends_at j rows cs (Some i) = row_ends (slice_index_or rows i Free) (part j i cs)
+  ends_at j rows cs (Some i) = row_ends (slice_index_or rows i None) (part j i cs)
 
 -- the range of a badge at a reader
 abbrev pub badge_ends : {R S : Type 0} → (R → Bool) → (S → Bool) → ℕ → List (Cell R ℕ) → List (Cell S (Unit {0})) → ℕ × ℕ
 badge_ends of is level rows cs =
-    ends_at is level (cells_a_row (length rows) (length cs)) rows cs (first (taken_by of) 0 rows)
+    ends_at is level (cells_a_row (length rows) (length cs)) rows cs (position_from (taken_by of) 0 rows)

@@ -1,8 +1,8 @@
-use Rattle.std.specs.Prelude.{◌≡◌, ℕ, ◌+◌, ◌≤◌, Bool, ◌&&◌, List, map, length, Some, Option, slice_index_or}
+use Rattle.std.specs.Prelude.{◌≡◌, ℕ, ◌+◌, ◌≤◌, Bool, ◌&&◌, List, map, length, Some, slice_index_or, None}
 use Rattle.cells.specs.Vouched.{Ran, Vouched}
-use Rattle.cells.specs.declared.cell.Cell.{Cell}
-use Rattle.cells.specs.declared.cell.Cell.TheVariants.{Free, Held}
+use Rattle.cells.specs.Cells.{Cell}
 use Rattle.cells.specs.declared.cell.Slot.{Slot}
+use Rattle.keys.specs.Kinds.{KeyKind}
 use Rattle.keys.specs.Shares.{passes}
 use Rattle.parts.specs.Parts.{part}
 use Rattle.tally.specs.Arrivals.{occurs}
@@ -38,17 +38,17 @@ pub record Covers (count width low high : ℕ) : Type 0 where
   pub upto : count ≤ high
   pub narrow : high ≤ low + width
 
-module _ {A B R S : Type 0} (x : A → A → Bool) (reads : R → Option A) (y : B → B → Bool) (readsᵇ : S → Option B) where
+module _ {A B R S : Type 0} (ka : KeyKind A R) (kb : KeyKind B S) where
   -- a row's badge table vouches for badges that were shown to its reader, one for each arrival seen; what came before the row
   -- was taken is at most its mark
   pub record Follows (s : Slot R ℕ) (p : List (Cell S (Unit {0}))) (a : A) (ps : List (A × B)) : Type 0 where
     pub badges : List B
-    pub vouched : Vouched y readsᵇ p s.beside s.count badges
-    pub from : (b : B) → occurs y b badges ≤ badge_count x y a b ps
-    pub upto : (b : B) → badge_count x y a b ps ≤ occurs y b badges + s.mark
+    pub vouched : Vouched kb.eq kb.reads p s.beside s.count badges
+    pub from : (b : B) → occurs kb.eq b badges ≤ badge_count ka.eq kb.eq a b ps
+    pub upto : (b : B) → badge_count ka.eq kb.eq a b ps ≤ occurs kb.eq b badges + s.mark
 
   -- rows and cells at a level D account for a list of n arrivals: the rows are where a count table's run of its readers leads,
   -- and the badge table of each taken row follows the badges at its reader
   pub record Shown (rows : List (Cell R ℕ)) (cs : List (Cell S (Unit {0}))) (level n : ℕ) (ps : List (A × B)) : Type 0 where
-    pub readers : Ran x reads rows level n (readers_of ps)
-    pub each : (i : ℕ) (s : Slot R ℕ) (a : A) → slice_index_or rows i Free ≡ Held s → reads s.key ≡ Some a → Follows s (part (cells_a_row (length rows) (length cs)) i cs) a ps
+    pub readers : Ran ka.eq ka.reads rows level n (readers_of ps)
+    pub each : (i : ℕ) (s : Slot R ℕ) (a : A) → slice_index_or rows i None ≡ Some s → ka.reads s.key ≡ Some a → Follows s (part (cells_a_row (length rows) (length cs)) i cs) a ps

@@ -1,12 +1,13 @@
-use Rattle.std.specs.Prelude.{◌≡◌, ℕ, ◌+◌, min, Bool, List, length, Option}
+use Rattle.std.specs.Prelude.{◌≡◌, ℕ, ◌+◌, List, length}
 use Rattle.badgetable.specs.Plans.{cells_a_row}
-use Rattle.badgetable.specs.Rows.{badges_after, rows_after}
+use Rattle.badgetable.specs.Rows.{badge_ends, badges_after, cells_by, rows_after, rows_by}
 use Rattle.badgetable.specs.Shown.{Shown}
 use Rattle.badgetable.specs.declared.table.BadgeTable.{BadgeTable}
-use Rattle.cells.specs.Cells.{emptied, level_after, rule_for}
-use Rattle.cells.specs.declared.cell.Cell.{Cell}
+use Rattle.cells.specs.Cells.{Cell, emptied, ends, level_after, rule_for}
+use Rattle.cells.specs.declared.rule.Rule.{Rule}
+use Rattle.keys.specs.Kinds.{KeyKind}
+use Rattle.keys.specs.OfKey.{of_key}
 use Rattle.parts.specs.Parts.{part}
-use Rattle.tally.specs.Owed.{most_arrivals}
 
 module _ {A B R S : Type 0} where
   -- K and J of a table
@@ -22,26 +23,53 @@ module _ {A B R S : Type 0} where
 
   -- n: the arrivals noted since the latest clear
   abbrev pub arrivals_in : BadgeTable A B R S → ℕ
-  arrivals_in t = min t.noted most_arrivals
+  arrivals_in t = t.run.arrivals
+
+  -- a table lies in the areas that it was lent, which are as long as they were
+  pub record SameAreas (was t : BadgeTable A B R S) : Type 0 where
+    pub rows : t.rows.ghost_name ≡ was.rows.ghost_name
+    pub cells : t.cells.ghost_name ≡ was.cells.ghost_name
+    pub many_rows : length t.rows.now ≡ length was.rows.now
+    pub many_cells : length t.cells.now ≡ length was.cells.now
 
   -- a table is empty: all rows and cells are free, as many as before, in the areas that were lent
   pub record Emptied (was t : BadgeTable A B R S) : Type 0 where
     pub rows : t.rows.now ≡ emptied was.rows.now
     pub cells : t.cells.now ≡ emptied was.cells.now
     pub level : t.level ≡ 0
-    pub noted : t.noted ≡ 0
-    pub same_rows : t.rows.ghost_name ≡ was.rows.ghost_name
-    pub same_cells : t.cells.ghost_name ≡ was.cells.ghost_name
+    pub noted : arrivals_in t ≡ 0
+    pub areas : SameAreas was t
 
-  -- a table after an arrival of a reader, whose record is r, with a badge, whose record is s
-  pub record Noted (of : R → Bool) (is : S → Bool) (r : R) (s : S) (was t : BadgeTable A B R S) : Type 0 where
-    pub rows : t.rows.now ≡ rows_after of is r s was.level was.rows.now was.cells.now
-    pub cells : t.cells.now ≡ badges_after of is r s was.level was.rows.now was.cells.now
-    pub level : t.level ≡ level_after was.level (rule_for of was.rows.now)
-    pub noted : t.noted ≡ was.noted + 1
-    pub same_rows : t.rows.ghost_name ≡ was.rows.ghost_name
-    pub same_cells : t.cells.ghost_name ≡ was.cells.ghost_name
+  -- what a badge's way into a table leaves: D, n and the areas
+  pub record Kept (was t : BadgeTable A B R S) : Type 0 where
+    pub level : t.level ≡ was.level
+    pub run : t.run ≡ was.run
+    pub areas : SameAreas was t
+
+module _ {A B R S : Type 0} (kb : KeyKind B S) where
+  -- a table after a badge went the way of a rule that its reader's arrival met
+  pub record Entered (b : B) (rule : Rule) (was t : BadgeTable A B R S) : Type 0 where
+    pub rows : t.rows.now ≡ rows_by (of_key kb.eq kb.reads b) (kb.lies b) (cell_count was) was.rows.now was.cells.now rule
+    pub cells : t.cells.now ≡ cells_by (of_key kb.eq kb.reads b) (kb.lies b) (cell_count was) was.rows.now was.cells.now rule
+    pub kept : Kept was t
+
+-- the range of a reader, as a table stands
+abbrev pub reader_ends_of : {A B R S : Type 0} → KeyKind A R → BadgeTable A B R S → A → ℕ × ℕ
+reader_ends_of ka t a = ends (of_key ka.eq ka.reads a) t.level t.rows.now
+
+module _ {A B R S : Type 0} (ka : KeyKind A R) (kb : KeyKind B S) where
+  -- the range of a badge at a reader, as a table stands
+  abbrev pub badge_ends_of : BadgeTable A B R S → A → B → ℕ × ℕ
+  badge_ends_of t a b = badge_ends (of_key ka.eq ka.reads a) (of_key kb.eq kb.reads b) t.level t.rows.now t.cells.now
+
+  -- a table after an arrival of a reader with a badge
+  pub record Noted (a : A) (b : B) (was t : BadgeTable A B R S) : Type 0 where
+    pub rows : t.rows.now ≡ rows_after (of_key ka.eq ka.reads a) (of_key kb.eq kb.reads b) (ka.lies a) (kb.lies b) was.level was.rows.now was.cells.now
+    pub cells : t.cells.now ≡ badges_after (of_key ka.eq ka.reads a) (of_key kb.eq kb.reads b) (ka.lies a) (kb.lies b) was.level was.rows.now was.cells.now
+    pub level : t.level ≡ level_after was.level (rule_for (of_key ka.eq ka.reads a) was.rows.now)
+    pub noted : arrivals_in t ≡ arrivals_in was + 1
+    pub areas : SameAreas was t
 
   -- which lists of arrivals a table accounts for
-  abbrev pub accounts_for : (A → A → Bool) → (R → Option A) → (B → B → Bool) → (S → Option B) → BadgeTable A B R S → List (A × B) → Type 0
-  accounts_for x reads y readsᵇ t ps = Shown x reads y readsᵇ t.rows.now t.cells.now t.level t.noted ps
+  abbrev pub accounts_for : BadgeTable A B R S → List (A × B) → Type 0
+  accounts_for t ps = Shown ka kb t.rows.now t.cells.now t.level (arrivals_in t) ps

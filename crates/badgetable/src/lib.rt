@@ -2,11 +2,9 @@
 // rules, each row of which has a small count table of the badges that were shown there.
 #![tactic(auto)]
 
-pub mod count;
-mod note;
+pub mod note;
 pub mod open;
 pub mod query;
-mod range;
 mod row;
 pub mod table;
 #[cfg(test)]

@@ -7,19 +7,18 @@ use Rattle.tally.specs.Owed.{Contains, held_below, holds}
 use Rattle.cells.specs.Cells.{ends, key_at, key_in, taken_by}
 use Rattle.keys.specs.OfKey.{of_key}
 use Rattle.cells.specs.Vouched.{Absent, Sound, Vouched, counters}
-use Rattle.cells.specs.declared.cell.Cell.{Cell}
-use Rattle.cells.specs.declared.cell.Cell.TheVariants.{Free, Held}
+use Rattle.cells.specs.Cells.{Cell}
 use Rattle.cells.proofs.Counters.{counters_cons}
 use Rattle.cells.proofs.Kept.{level_below}
-use Rattle.tally.proofs.Options.{cases_option}
+use Rattle.tally.proofs.OfKey.{holds_read}
 use Rattle.cells.proofs.Ranges.{ends_absent}
 
 module _ {K R X : Type 0} (alike : K → K → Bool) (reads : R → Option K) where
   -- no range is wider than the level
   pub narrow : (is : R → Bool) (level n : ℕ) (cs : List (Cell R X)) → Sound alike reads level n cs → (ends is level cs).1 ≤ (ends is level cs).0 + level
   narrow is level n [] h = omega arith
-  narrow is level n (Free ∷ cs) h = narrow is level n cs h
-  narrow is level n (Held s ∷ cs) h =
+  narrow is level n (None ∷ cs) h = narrow is level n cs h
+  narrow is level n (Some s ∷ cs) h =
       let l = h.1 in
       ⊎_elim
       (λ (t : is s.key ≡ true). rw t (omega arith))
@@ -29,8 +28,8 @@ module _ {K R X : Type 0} (alike : K → K → Bool) (reads : R → Option K) wh
   -- no high end passes n by more than the level
   pub high_below : (is : R → Bool) (level n : ℕ) (cs : List (Cell R X)) → Sound alike reads level n cs → (ends is level cs).1 ≤ n + level
   high_below is level n [] h = omega arith
-  high_below is level n (Free ∷ cs) h = high_below is level n cs h
-  high_below is level n (Held s ∷ cs) h =
+  high_below is level n (None ∷ cs) h = high_below is level n cs h
+  high_below is level n (Some s ∷ cs) h =
       let l = h.1 in
       ⊎_elim
       (λ (t : is s.key ≡ true). rw t (omega arith))
@@ -40,10 +39,10 @@ module _ {K R X : Type 0} (alike : K → K → Bool) (reads : R → Option K) wh
   -- nor does it pass the level and the counters together
   high_accounted : (is : R → Bool) (level n : ℕ) (cs : List (Cell R X)) → Sound alike reads level n cs → (ends is level cs).1 ≤ level + counters level cs
   high_accounted is level n [] h = omega arith
-  high_accounted is level n (Free ∷ cs) h = high_accounted is level n cs h
-  high_accounted is level n (Held s ∷ cs) h =
+  high_accounted is level n (None ∷ cs) h = high_accounted is level n cs h
+  high_accounted is level n (Some s ∷ cs) h =
       let l = h.1 in
-      let a = counters_cons level (Held s) cs in
+      let a = counters_cons level (Some s) cs in
       ⊎_elim
       (λ (t : is s.key ≡ true). rw t (omega arith))
       (λ (t : is s.key ≡ false). let r = high_accounted is level n cs h.2 in rw t (omega arith))
@@ -79,15 +78,11 @@ module _ {K R X : Type 0} (alike : K → K → Bool) (reads : R → Option K) wh
       le-div level n (length cs + 1) (omega arith) (omega arith)
 
   taken_holds : (k : K) (c : Cell R X) → holds alike k (key_in reads c) ≡ taken_by (of_key alike reads k) c
-  taken_holds k Free = refl
-  taken_holds k (Held s) =
-      ⊎_elim
-      (λ (t : reads s.key ≡ None). rw (t, of_key) refl)
-      (λ (t : (j : K) × (reads s.key ≡ Some j)). rw (t.1, of_key) refl)
-      (cases_option (reads s.key))
+  taken_holds k None = refl
+  taken_holds k (Some s) = holds_read alike reads k s.key
 
   -- a key held at no place is held by no cell
-  pub absent_from : (k : K) (cs : List (Cell R X)) → ((i : ℕ) → i < length cs → holds alike k (key_in reads (get_or cs i Free)) ≡ false) → Absent (of_key alike reads k) cs
+  pub absent_from : (k : K) (cs : List (Cell R X)) → ((i : ℕ) → i < length cs → holds alike k (key_in reads (get_or cs i None)) ≡ false) → Absent (of_key alike reads k) cs
   absent_from k [] h = tt
   absent_from k (c ∷ cs) h = (sym (taken_holds k c) ∙ h 0 (omega arith), absent_from k cs (λ i l. h (suc i) (omega arith)))
 

@@ -1,15 +1,14 @@
 -- free cells at level 0 are where the empty run leads
-use Rattle.std.proofs.Common.{◌≡◌, ℕ, zero, suc, ◌+◌, Bool, List, [], length, replicate, Option, refl, zero-le, mul-zero, arith}
+use Rattle.std.proofs.Common.{◌≡◌, ℕ, zero, suc, ◌+◌, Bool, List, [], length, replicate, Option, refl, zero-le, mul-zero, arith, None}
 use mathlib.Core.List.{Permᴰ}
 use Rattle.cells.specs.Cells.{ends}
 use Rattle.keys.specs.OfKey.{of_key}
 use Rattle.cells.specs.Vouched.{Ran, Sound, Vouched, counted_keys, counters}
-use Rattle.cells.specs.declared.cell.Cell.{Cell}
-use Rattle.cells.specs.declared.cell.Cell.TheVariants.{Free}
+use Rattle.cells.specs.Cells.{Cell}
 
 module _ {K R : Type 0} (X : Type 0) (alike : K → K → Bool) (reads : R → Option K) where
   abbrev free : ℕ → List (Cell R X)
-  free m = replicate m Free
+  free m = replicate m None
 
   ends_free : (k : K) (m : ℕ) → ends (of_key alike reads k) 0 (free m) ≡ (0, 0)
   ends_free k zero = refl

@@ -1,6 +1,6 @@
 use Rattle.std.proofs.Common.{◌≡◌, ℕ, ◌+◌, ◌<◌, ◌≤◌, Bool, List, length, get_or, drop, Some, None, sym, refl, ap, ◌∙◌}
 use Rattle.std.proofs.lemmas.List.{drop_more, drop_all}
-use Rattle.cells.specs.declared.cell.Cell.{Cell}
+use Rattle.cells.specs.Cells.{Cell}
 use Rattle.cells.specs.Cells.{ends, cell_ends}
 
 module _ {R X : Type 0} (is : R → Bool) (level : ℕ) (xs : List (Cell R X)) (i : ℕ) where

@@ -1,14 +1,14 @@
 -- cells that vouch for a list vouch for it with one arrival more
-use Rattle.std.proofs.Common.{◌≡◌, ℕ, ◌+◌, ◌<◌, ◌≤◌, Bool, true, false, List, [], ◌∷◌, ◌++◌, map, length, Some, None, Option, ap, ◌∙◌, ⊎_elim, add-mul, mul-add, arith}
+use Rattle.std.proofs.Common.{◌≡◌, ℕ, ◌+◌, ◌<◌, ◌≤◌, Bool, true, false, List, [], ◌∷◌, ◌++◌, map, length, Some, None, Option, ap, ◌∙◌, ⊎_elim, add-mul, mul-add, arith, is_none}
 use Rattle.std.proofs.lemmas.Bool.{cases_Bool}
 use Rattle.std.proofs.lemmas.List.{length_push, length-map}
 use Rattle.tally.proofs.Counts.{occurs_same, occurs_other}
-use Rattle.tally.proofs.Sameness.{Same}
-use Rattle.cells.specs.Cells.{capped, cells_after, counted, first, is_free, level_after, rule_for, taken_by, worn}
+use Rattle.std.specs.Cmp.{IsEquivalence}
+use Rattle.std.specs.List.{position_from}
+use Rattle.cells.specs.Cells.{capped, cells_after, counted, level_after, rule_for, taken_by, worn}
 use Rattle.keys.specs.OfKey.{of_key}
 use Rattle.cells.specs.Vouched.{Absent, Vouched}
-use Rattle.cells.specs.declared.cell.Cell.{Cell}
-use Rattle.cells.specs.declared.cell.Cell.TheVariants.{Held}
+use Rattle.cells.specs.Cells.{Cell}
 use Rattle.cells.specs.declared.cell.Slot.{Slot}
 use Rattle.cells.proofs.ByRule.{by_rule}
 use Rattle.cells.proofs.Changed.{changed, first_none, length_changed}
@@ -21,14 +21,14 @@ use Rattle.cells.proofs.Sounds.{absent_agree, sound_counted, sound_entered, soun
 pub level_below : {K R X : Type 0} (alike : K → K → Bool) (reads : R → Option K) (cs : List (Cell R X)) (level n : ℕ) (xs : List K) → Vouched alike reads cs level n xs → level ≤ n
 level_below alike reads cs level n xs v = let m = add-mul (length cs) 1 level in let t = v.covered in omega arith
 
-module _ {K R X : Type 0} (alike : K → K → Bool) (reads : R → Option K) (law : Same alike) (key : K) (r : R) (restored : reads r ≡ Some key) (x : X) (cs : List (Cell R X)) (level n : ℕ) (xs : List K) where
+module _ {K R X : Type 0} (alike : K → K → Bool) (reads : R → Option K) (law : IsEquivalence alike) (key : K) (r : R) (restored : reads r ≡ Some key) (x : X) (cs : List (Cell R X)) (level n : ℕ) (xs : List K) where
   abbrev of : R → Bool
   of = of_key alike reads key
 
   abbrev Next : List (Cell R X) → ℕ → Type 0
   Next ds lv = Vouched alike reads ds lv (n + 1) (xs ++ key ∷ [])
 
-  count_kept : (i : ℕ) → n < 100_000_000 → level ≤ n → first (taken_by of) 0 cs ≡ Some i → Vouched alike reads cs level n xs → Next (changed (taken_by of) counted cs) level
+  count_kept : (i : ℕ) → n < 100_000_000 → level ≤ n → position_from (taken_by of) 0 cs ≡ Some i → Vouched alike reads cs level n xs → Next (changed (taken_by of) counted cs) level
   count_kept i few le e v = record {
     long = length_push xs key ∙ ap (λ (m : ℕ). m + 1) v.long;
     few = omega arith;
@@ -51,7 +51,7 @@ module _ {K R X : Type 0} (alike : K → K → Bool) (reads : R → Option K) (l
   abbrev new : Slot R X
   new = record { key = r; count = 1; mark = level; beside = x }
 
-  enter_kept : (i : ℕ) → n < 100_000_000 → level ≤ n → Absent of cs → first is_free 0 cs ≡ Some i → Vouched alike reads cs level n xs → Next (changed is_free (λ (c : Cell R X). Held new) cs) level
+  enter_kept : (i : ℕ) → n < 100_000_000 → level ≤ n → Absent of cs → position_from is_none 0 cs ≡ Some i → Vouched alike reads cs level n xs → Next (changed is_none (λ (c : Cell R X). Some new) cs) level
   enter_kept i few le out e v = record {
     long = length_push xs key ∙ ap (λ (m : ℕ). m + 1) v.long;
     few = omega arith;
@@ -69,10 +69,10 @@ module _ {K R X : Type 0} (alike : K → K → Bool) (reads : R → Option K) (l
     covered =
         let q = counters_entered level new (omega arith) cs 0 i e in
         let w = v.covered in
-        rw (length_changed is_free (λ (c : Cell R X). Held new) cs, q) (omega arith);
+        rw (length_changed is_none (λ (c : Cell R X). Some new) cs, q) (omega arith);
   }
 
-  raise_kept : n < 100_000_000 → Absent of cs → first is_free 0 cs ≡ None → Vouched alike reads cs level n xs → Next (map (worn (level + 1)) cs) (level + 1)
+  raise_kept : n < 100_000_000 → Absent of cs → position_from is_none 0 cs ≡ None → Vouched alike reads cs level n xs → Next (map (worn (level + 1)) cs) (level + 1)
   raise_kept few out e v = record {
     long = length_push xs key ∙ ap (λ (m : ℕ). m + 1) v.long;
     few = omega arith;

@@ -1,8 +1,7 @@
 -- no rule changes how many cells there are
-use Rattle.std.proofs.Common.{◌≡◌, ℕ, ◌+◌, List, length}
+use Rattle.std.proofs.Common.{◌≡◌, ℕ, ◌+◌, List, length, None}
 use Rattle.cells.specs.Cells.{capped, cells_after, emptied, worn}
-use Rattle.cells.specs.declared.cell.Cell.{Cell}
-use Rattle.cells.specs.declared.cell.Cell.TheVariants.{Free}
+use Rattle.cells.specs.Cells.{Cell}
 use Rattle.cells.specs.declared.rule.Rule.{Rule}
 use Rattle.cells.specs.declared.rule.Rule.TheVariants.{Count, Enter, Raise}
 use Rattle.std.proofs.lemmas.List.{length-map, length-replicate, length-set}
@@ -13,4 +12,4 @@ length_after level r x cs (Enter i) = length-set cs i _
 length_after level r x cs Raise = length-map cs (worn (capped (level + 1)))
 
 pub length_emptied : {R X : Type 0} (cs : List (Cell R X)) → length (emptied cs) ≡ length cs
-length_emptied cs = length-replicate (length cs) Free
+length_emptied cs = length-replicate (length cs) None

@@ -5,8 +5,6 @@ pub mod Changed
 pub mod Cleared
 pub mod Counters
 pub mod Ends
-pub mod Fills
-pub mod Firsts
 pub mod Kept
 pub mod Lengths
 pub mod Literature

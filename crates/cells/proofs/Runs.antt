@@ -1,16 +1,16 @@
 -- a whole run of arrivals leads where the method of Misra and Gries leads, and the sum for n stays exact
-use Rattle.std.proofs.Common.{◌≡◌, ℕ, ◌+◌, ◌*◌, ◌<◌, ◌≤◌, Bool, true, false, List, [], ◌∷◌, ◌++◌, map, length, Some, None, Option, sym, refl, ap, ◌∙◌, mul-add, arith}
+use Rattle.std.proofs.Common.{◌≡◌, ℕ, ◌+◌, ◌*◌, ◌<◌, ◌≤◌, Bool, true, false, List, [], ◌∷◌, ◌++◌, map, length, Some, None, Option, sym, refl, ap, ◌∙◌, mul-add, arith, is_none}
 use mathlib.Core.List.{Permᴰ}
 use Rattle.std.proofs.lemmas.Bool.{lt-ltb, le-ltb}
 use Rattle.std.proofs.lemmas.List.{length-map}
 use Rattle.std.proofs.lemmas.List.Sums.{fold_push}
-use Rattle.tally.proofs.Sameness.{Same}
-use Rattle.cells.specs.Cells.{capped, cells_after, counted, first, is_free, level_after, rule_for, taken_by, worn}
+use Rattle.std.specs.Cmp.{IsEquivalence}
+use Rattle.std.specs.List.{position_from}
+use Rattle.cells.specs.Cells.{capped, cells_after, counted, level_after, rule_for, taken_by, worn}
 use Rattle.keys.specs.OfKey.{of_key}
 use Rattle.cells.specs.MisraGries.{Summary, decremented, has_counter, incremented, misra_gries, not_zero, less_one, with_arrival}
 use Rattle.cells.specs.Vouched.{Absent, Ran, counted_keys, counters}
-use Rattle.cells.specs.declared.cell.Cell.{Cell}
-use Rattle.cells.specs.declared.cell.Cell.TheVariants.{Held}
+use Rattle.cells.specs.Cells.{Cell}
 use Rattle.cells.specs.declared.cell.Slot.{Slot}
 use Rattle.cells.proofs.Bounds.{level_share}
 use Rattle.cells.proofs.ByRule.{by_rule}
@@ -38,7 +38,7 @@ record Exact {K R X : Type 0} (alike : K → K → Bool) (reads : R → Option K
   same_counters : Permᴰ (counted_keys alike reads level cs) s.entries
   same_decrements : level ≡ s.decrements
 
-module _ {K R X : Type 0} (alike : K → K → Bool) (reads : R → Option K) (law : Same alike) (key : K) (r : R) (restored : reads r ≡ Some key) (x : X) (cs : List (Cell R X)) (level n : ℕ) (xs : List K) where
+module _ {K R X : Type 0} (alike : K → K → Bool) (reads : R → Option K) (law : IsEquivalence alike) (key : K) (r : R) (restored : reads r ≡ Some key) (x : X) (cs : List (Cell R X)) (level n : ℕ) (xs : List K) where
   abbrev of : R → Bool
   of = of_key alike reads key
 
@@ -51,7 +51,7 @@ module _ {K R X : Type 0} (alike : K → K → Bool) (reads : R → Option K) (l
   abbrev new : Slot R X
   new = record { key = r; count = 1; mark = level; beside = x }
 
-  count_exact : (i : ℕ) → n < 100_000_000 → first (taken_by of) 0 cs ≡ Some i → Ran alike reads cs level n xs → Next (changed (taken_by of) counted cs) level
+  count_exact : (i : ℕ) → n < 100_000_000 → position_from (taken_by of) 0 cs ≡ Some i → Ran alike reads cs level n xs → Next (changed (taken_by of) counted cs) level
   count_exact i few e v =
       let sound = v.vouched.sound in
       let has = sym (perm_has alike key v.same_counters) ∙ has_one alike reads law key level n cs 0 i sound e in
@@ -64,7 +64,7 @@ module _ {K R X : Type 0} (alike : K → K → Bool) (reads : R → Option K) (l
         same_decrements = v.same_decrements;
       })
 
-  enter_exact : (i : ℕ) → Absent of cs → first is_free 0 cs ≡ Some i → Ran alike reads cs level n xs → Next (changed is_free (λ (c : Cell R X). Held new) cs) level
+  enter_exact : (i : ℕ) → Absent of cs → position_from is_none 0 cs ≡ Some i → Ran alike reads cs level n xs → Next (changed is_none (λ (c : Cell R X). Some new) cs) level
   enter_exact i out e v =
       let sound = v.vouched.sound in
       let has = sym (perm_has alike key v.same_counters) ∙ has_not alike reads law key level n cs sound out in
@@ -74,13 +74,13 @@ module _ {K R X : Type 0} (alike : K → K → Bool) (reads : R → Option K) (l
       let q = counters_entered level new (omega arith) cs 0 i e in
       let w = v.total in
       rw (arrival_room alike (length cs) summary key has l) (record {
-        size = length_changed is_free (λ (c : Cell R X). Held new) cs;
+        size = length_changed is_none (λ (c : Cell R X). Some new) cs;
         total = rw q (omega arith);
         same_counters = Permᴰ.trans (keys_entered alike reads law key level new restored (omega arith) cs 0 i e) (Permᴰ.cons refl v.same_counters);
         same_decrements = v.same_decrements;
       })
 
-  raise_exact : Absent of cs → first is_free 0 cs ≡ None → Ran alike reads cs level n xs → Next (map (worn (level + 1)) cs) (level + 1)
+  raise_exact : Absent of cs → position_from is_none 0 cs ≡ None → Ran alike reads cs level n xs → Next (map (worn (level + 1)) cs) (level + 1)
   raise_exact out e v =
       let sound = v.vouched.sound in
       let has = sym (perm_has alike key v.same_counters) ∙ has_not alike reads law key level n cs sound out in

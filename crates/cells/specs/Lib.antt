@@ -1,3 +1,4 @@
+pub mod Capped
 pub mod Cells
 pub mod MisraGries
 pub mod Rules

@@ -1,5 +1,5 @@
 -- The method of Misra and Gries for finding frequent items: at most k keys have a counter.
-use Rattle.std.specs.Prelude.{ℕ, ◌+◌, ◌-◌, Bool, false, cond, ◌||◌, List, [], ◌∷◌, map, length, fold, filter, nat_lt}
+use Rattle.std.specs.Prelude.{ℕ, ◌+◌, ◌-◌, Bool, false, if◌then◌else◌, ◌||◌, List, [], ◌∷◌, map, length, fold, filter, nat_lt}
 
 -- the keys that have a counter, each with its counter, and how often all counters were decremented
 pub record Summary (K : Type 0) : Type 0 where
@@ -25,17 +25,15 @@ module _ {K : Type 0} (alike : K → K → Bool) where
 
   -- a counter more by one, where it is the key's
   abbrev pub incremented : K → K × ℕ → K × ℕ
-  incremented x e = cond (alike x e.0) (e.0, e.1 + 1) e
+  incremented x e = if alike x e.0 then (e.0, e.1 + 1) else e
 
   -- one arrival: the key's counter grows; a key without one gets a counter of 1 while fewer than k have one; otherwise all
   -- counters are decremented
   abbrev pub with_arrival : ℕ → Summary K → K → Summary K
   with_arrival k s x =
-      cond (has_counter x s.entries)
-      (record { entries = map (incremented x) s.entries; decrements = s.decrements })
-      (cond (nat_lt (length s.entries) k)
-      (record { entries = (x, 1) ∷ s.entries; decrements = s.decrements })
-      (record { entries = decremented s.entries; decrements = s.decrements + 1 }))
+      if has_counter x s.entries then record s { entries = map (incremented x) s.entries }
+      else if nat_lt (length s.entries) k then record s { entries = (x, 1) ∷ s.entries }
+      else record { entries = decremented s.entries; decrements = s.decrements + 1 }
 
   -- the summary after a list of arrivals
   abbrev pub misra_gries : ℕ → List K → Summary K

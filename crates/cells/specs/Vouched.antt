@@ -5,8 +5,7 @@ use Rattle.tally.specs.Owed.{most_arrivals}
 use Rattle.cells.specs.Cells.{ends, taken_by}
 use Rattle.keys.specs.OfKey.{of_key}
 use Rattle.cells.specs.MisraGries.{misra_gries}
-use Rattle.cells.specs.declared.cell.Cell.{Cell}
-use Rattle.cells.specs.declared.cell.Cell.TheVariants.{Free, Held}
+use Rattle.cells.specs.Cells.{Cell}
 use Rattle.cells.specs.declared.cell.Slot.{Slot}
 
 module _ {R X : Type 0} where
@@ -24,8 +23,8 @@ module _ {R X : Type 0} where
 
   -- the counter of a cell: what it counts beyond the level
   abbrev pub counter : ℕ → Cell R X → ℕ
-  counter level Free = 0
-  counter level (Held s) = s.count + s.mark - level
+  counter level None = 0
+  counter level (Some s) = s.count + s.mark - level
 
   -- the counters of all cells, added
   abbrev pub counters : ℕ → List (Cell R X) → ℕ
@@ -40,8 +39,8 @@ module _ {K R X : Type 0} (alike : K → K → Bool) (reads : R → Option K) wh
   -- each taken cell holds a key and is live, and no two hold the same key
   abbrev pub Sound : ℕ → ℕ → List (Cell R X) → Type 0
   Sound level n [] = Unit {0}
-  Sound level n (Free ∷ cs) = Sound level n cs
-  Sound level n (Held s ∷ cs) = ((k : K) × (reads s.key ≡ Some k) × Absent (of_key alike reads k) cs) × Live level n s × Sound level n cs
+  Sound level n (None ∷ cs) = Sound level n cs
+  Sound level n (Some s ∷ cs) = ((k : K) × (reads s.key ≡ Some k) × Absent (of_key alike reads k) cs) × Live level n s × Sound level n cs
 
   -- cells at a level vouch for a list of n arrivals: every key's count lies in its range, the cells are sound, and the level and
   -- the counters account for no more than n
@@ -55,8 +54,8 @@ module _ {K R X : Type 0} (alike : K → K → Bool) (reads : R → Option K) wh
   -- the keys in cells, each with its counter
   abbrev pub counted_keys : ℕ → List (Cell R X) → List (K × ℕ)
   counted_keys level [] = []
-  counted_keys level (Free ∷ cs) = counted_keys level cs
-  counted_keys level (Held s ∷ cs) = with_key (s.count + s.mark - level) (reads s.key) (counted_keys level cs)
+  counted_keys level (None ∷ cs) = counted_keys level cs
+  counted_keys level (Some s ∷ cs) = with_key (s.count + s.mark - level) (reads s.key) (counted_keys level cs)
 
   -- k cells at a level are where a whole run of n arrivals leads: they vouch for it; n is (k + 1) × level and the counters, so
   -- that the level is at most n/(k + 1); and keys and counters are those of Misra and Gries, in whatever order, with the level

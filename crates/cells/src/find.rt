@@ -1,56 +1,45 @@
-ghost use Rattle.std.specs.Prelude.{◌≡◌, ◌<◌, length, IfSome};
-ghost use Rattle.cells.specs.Cells.{first, is_free, rule_for, taken_by};
+ghost use Rattle.std.specs.Prelude.{◌≡◌, ◌<◌, length, is_none, IfSome};
+ghost use Rattle.std.specs.List.{position_from};
+ghost use Rattle.cells.specs.Cells.{rule_for, taken_by};
 ghost use Rattle.keys.specs.OfKey.{of_key};
 ghost use Rattle.cells.specs.Rules.{Within};
 
 use crate::cell::Cell;
-use crate::one::{free, is_taken_by};
 use crate::rule::Rule;
-use keys::key::Key;
+use keys::key::{Key, same_key};
 
-// The first cell that is taken by a key.
-fn find_key<K: Key, X: Copy>(cells: &[Cell<K::Record, X>], key: K) -> Option<usize>
-    ensures value { result ≡ first (taken_by (of_key K.Key.alike K.Key.reads key)) 0 cells.now }
-    ensures within { IfSome result (λ i. i < length cells.now) }
+// Whether a cell is taken by a key.
+fn is_taken_by<K: Key, X: Copy>(cell: Cell<K::Record, X>, key: K) -> bool
+    ensures { result ≡ taken_by (of_key K.eq K.Key.reads key) cell }
 {
-    for (i, c) in cells.iter().enumerate() {
-        if is_taken_by(*c, key) {
-            return Some(i);
-        }
-    }
-    None
+    cell.is_some_and(|slot| same_key(slot.key, key))
 }
 
-// The place of the cell that holds a key, if one does.
+// The place of the first cell that holds a key, if one does.
 pub fn place_of<K: Key, X: Copy>(cells: &[Cell<K::Record, X>], key: K) -> Option<usize>
-    ensures value { result ≡ first (taken_by (of_key K.Key.alike K.Key.reads key)) 0 cells.now }
+    ensures value { result ≡ position_from (taken_by (of_key K.eq K.Key.reads key)) 0 cells.now }
     ensures within { IfSome result (λ i. i < length cells.now) }
 {
-    find_key(cells, key)
+    cells.iter().position(|cell| is_taken_by(*cell, key))
 }
 
-// The first free cell.
-fn find_free<R: Copy, X: Copy>(cells: &[Cell<R, X>]) -> Option<usize>
-    ensures value { result ≡ first is_free 0 cells.now }
+// The place of the first free cell.
+fn free_place<R: Copy, X: Copy>(cells: &[Cell<R, X>]) -> Option<usize>
+    ensures value { result ≡ position_from is_none 0 cells.now }
     ensures within { IfSome result (λ i. i < length cells.now) }
 {
-    for (i, c) in cells.iter().enumerate() {
-        if free(*c) {
-            return Some(i);
-        }
-    }
-    None
+    cells.iter().position(|cell| cell.is_none())
 }
 
 // The rule that an arrival of a key meets.
 pub(crate) fn find_rule<K: Key, X: Copy>(cells: &[Cell<K::Record, X>], key: K) -> Rule
-    ensures value { result ≡ rule_for (of_key K.Key.alike K.Key.reads key) cells.now }
+    ensures value { result ≡ rule_for (of_key K.eq K.Key.reads key) cells.now }
     ensures within { Within (length cells.now) result }
 {
-    if let Some(i) = find_key(cells, key) {
+    if let Some(i) = place_of(cells, key) {
         return Rule::Count(i);
     }
-    if let Some(i) = find_free(cells) {
+    if let Some(i) = free_place(cells) {
         return Rule::Enter(i);
     }
     Rule::Raise

@@ -1,34 +1,29 @@
-ghost use Rattle.std.specs.Prelude.{◌≡◌, min, true, length};
-ghost use Rattle.cells.specs.Cells.{ends, key_at};
-ghost use Rattle.keys.specs.OfKey.{of_key};
-ghost use Rattle.cells.specs.Vouched.{Vouched};
-ghost use Rattle.counttable.specs.Tables.{plannable};
+ghost use Rattle.std.specs.Prelude.{IsTrue, length};
+ghost use Rattle.counttable.specs.Tables.{key_in, most_cells, range_of, vouches};
 ghost use Rattle.tally.specs.Owed.{most_arrivals};
+ghost use Rattle.tally.specs.Plans.{plannable};
 
 use crate::table::CountTable;
-use cells::each::key_at;
+use cells::each::{key_at, range_in};
 use keys::key::Key;
 use keys::refusal::Refusal;
 use tally::{MOST_ARRIVALS, Tally};
-
-// A table counts over the whole run.
-const REACH: u32 = MOST_ARRIVALS;
 
 // The count table as a tally: its reach is the whole run.
 impl<'a, K: Key> Tally for CountTable<'a, K> {
     type Key = K;
 
-    ghost vouches = { λ t xs. Vouched K.Key.alike K.Key.reads t.cells.now t.level t.noted xs };
+    ghost vouches = { vouches K.Key };
 
-    ghost planned = { λ t. plannable (length t.cells.now) ≡ true };
+    ghost planned = { λ t. IsTrue (plannable most_cells (length t.cells.now)) };
 
-    ghost noted = { λ t. min t.noted most_arrivals };
+    ghost noted = { λ t. t.run.arrivals };
 
     ghost reaches = { λ t. most_arrivals };
 
-    ghost low = { λ t k. (ends (of_key K.Key.alike K.Key.reads k) t.level t.cells.now).0 };
+    ghost low = { λ t k. (range_of K.Key t k).0 };
 
-    ghost high = { λ t k. (ends (of_key K.Key.alike K.Key.reads k) t.level t.cells.now).1 };
+    ghost high = { λ t k. (range_of K.Key t k).1 };
 
     ghost wide = { λ t. t.level };
 
@@ -36,26 +31,28 @@ impl<'a, K: Key> Tally for CountTable<'a, K> {
 
     ghost spots = { λ t. length t.cells.now };
 
-    ghost held = { λ t. key_at K.Key.reads t.cells.now };
+    ghost held = { key_in K.Key };
 
     fn arrivals(&self) -> u32 {
-        self.noted.min(MOST_ARRIVALS)
+        self.run.arrivals()
     }
 
     fn reach(&self) -> u32 {
-        REACH
+        MOST_ARRIVALS
     }
 
     fn range(&self, key: K) -> (u32, u32) {
-        self.ends(key)
+        range_in(self.cells, self.level, key)
     }
 
+    // No range is wider than the level.
     fn width(&self) -> u32 {
-        self.level()
+        self.level
     }
 
+    // No key held at no place has a higher end.
     fn ceiling(&self) -> u32 {
-        CountTable::level(self)
+        self.width()
     }
 
     fn places(&self) -> usize {

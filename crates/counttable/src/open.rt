@@ -1,55 +1,53 @@
-ghost use Rattle.std.specs.Prelude.{◌≡◌, [], length, if◌then◌else◌, Ok, Err, OnOk};
-ghost use Rattle.cells.specs.Cells.{emptied};
-ghost use Rattle.cells.specs.Vouched.{Ran, Vouched};
-ghost use Rattle.counttable.specs.Tables.{plan_fits};
-ghost use Rattle.keys.specs.Refusals.{number_of, told};
+ghost use Rattle.std.specs.Prelude.{◌≡◌, [], length, if◌then◌else◌, Ok, Err, MatchResult, OnOk};
+ghost use Rattle.counttable.specs.Tables.{Emptied, has_run, most_cells, vouches};
 ghost use Rattle.keys.specs.declared.refusal.Refusal.TheVariants.{MisfitPlan};
+ghost use Rattle.tally.specs.Plans.{plan_fits};
 
 use crate::table::CountTable;
 use cells::cell::Cell;
 use cells::each::empty_cells;
 use keys::key::Key;
 use keys::refusal::Refusal;
+use tally::plan;
+use tally::run::Run;
+
+// The most cells that a table can be opened with.
+const MOST_CELLS: usize = 64;
 
 impl<'a, K: Key> CountTable<'a, K> {
-    // Holds an area, as it is, for a table that is still to be opened.
+    // Holds an area, as it is, for a table that is still to be opened. Each table says this of its own area,
+    // and the answers of `open` and of a count by equations: what each call answers, and no fact of a value.
     pub fn over(cells: &'a mut [Cell<K::Record, ()>]) -> Self
         ensures area { (result.cells.now ≡ cells.old) × (result.cells.ghost_name ≡ cells.entry.ghost_name) }
-        ensures start { (result.level ≡ 0) × (result.noted ≡ 0) }
+        ensures start { (result.level ≡ 0) × (result.run.arrivals ≡ 0) }
     {
         CountTable {
             cells,
             level: 0,
-            noted: 0,
+            run: Run::new(),
         }
     }
 
     // Makes the table empty: all cells free, level 0, no arrivals.
     pub fn empty(&mut self)
-        ensures cells { self.new.cells.now ≡ emptied self.old.cells.now }
-        ensures size { length self.new.cells.now ≡ length self.old.cells.now }
-        ensures start { (self.new.level ≡ 0) × (self.new.noted ≡ 0) }
-        ensures vouched { Vouched K.Key.alike K.Key.reads self.new.cells.now self.new.level self.new.noted [] }
-        ensures ran { Ran K.Key.alike K.Key.reads self.new.cells.now self.new.level self.new.noted [] }
-        ensures lender { self.new.cells.ghost_name ≡ self.old.cells.ghost_name }
+        ensures after { Emptied self.old self.new }
+        ensures vouched { vouches K.Key self.new [] }
+        ensures ran { has_run K.Key self.new [] }
     {
         empty_cells::<K, ()>(self.cells);
         self.level = 0;
-        self.noted = 0;
+        self.run = Run::new();
     }
 
     // Opens an empty table of k cells. Refused as a misfit plan, with everything as it was, where k is
-    // not 1 to 64, or the area has another number of cells.
+    // not 1 to 64, or the area has another number of cells. Kept beside the log's `open`: what both share
+    // is `plan::fits`, and each empties an area of its own.
     pub fn open(&mut self, k: usize) -> Result<(), Refusal>
-        ensures answer { told (λ u. u) result ≡ (if plan_fits k (length self.old.cells.now) then Ok tt else Err (number_of MisfitPlan)) }
-        ensures cells { self.new.cells.now ≡ (if plan_fits k (length self.old.cells.now) then emptied self.old.cells.now else self.old.cells.now) }
-        ensures level { self.new.level ≡ (if plan_fits k (length self.old.cells.now) then 0 else self.old.level) }
-        ensures noted { self.new.noted ≡ (if plan_fits k (length self.old.cells.now) then 0 else self.old.noted) }
-        ensures ran { OnOk result (Ran K.Key.alike K.Key.reads self.new.cells.now self.new.level self.new.noted []) }
-        ensures lender { self.new.cells.ghost_name ≡ self.old.cells.ghost_name }
+        ensures answer { result ≡ (if plan_fits most_cells k (length self.old.cells.now) then Ok tt else Err MisfitPlan) }
+        ensures after { MatchResult result (λ _. Emptied self.old self.new) (λ _. self.new ≡ self.old) }
+        ensures ran { OnOk result (has_run K.Key self.new []) }
     {
-        let area = self.cells.len();
-        if k < 1 || k > 64 || area != k {
+        if !plan::fits(MOST_CELLS, k, self.cells.len()) {
             return Err(Refusal::MisfitPlan);
         }
         self.empty();

@@ -1,95 +1,73 @@
 -- a log counts what it keeps, exactly
-use Rattle.std.proofs.Common.{◌≡◌, ℕ, suc, ◌+◌, ◌<◌, ◌≤◌, min, Bool, false, cond, List, [], ◌∷◌, ◌++◌, map, reverse, length, take, drop, Some, None, count_by, Option, sym, refl, ap, ◌∙◌, ⊎_elim, arith}
-use Rattle.std.proofs.lemmas.List.{length-append, length-drop, length-reverse, length-take, reverse-append}
+use Rattle.std.proofs.Common.{◌≡◌, ℕ, suc, ◌<◌, ◌≤◌, min, Bool, false, cond, List, [], ◌∷◌, map, reverse, length, Some, count_by, sym, refl, ap, ◌∙◌, arith}
+use Rattle.std.proofs.lemmas.List.{length-take}
+use Rattle.std.proofs.lemmas.Grind.{common_steps}
 use Rattle.std.proofs.lemmas.List.Sums.{count_by-le-length, sum_by-append, sum_by-cons, sum_by-take-drop}
+use Rattle.std.proofs.lemmas.List.Sorted.{IsPermutation-reverse, sum_by-IsPermutation}
+use Rattle.std.specs.Cmp.{IsEquivalence}
 use Rattle.std.specs.List.{slice_get}
+use Rattle.exactlog.specs.ExactLog.{count_in, key_at, reach_of, vouches}
+use Rattle.exactlog.specs.Logs.{in_order, kept, read_with}
+use Rattle.exactlog.specs.declared.log.ExactLog.{ExactLog}
+use Rattle.keys.specs.Kinds.{KeyKind}
 use Rattle.keys.specs.OfKey.{of_key}
 use Rattle.tally.proofs.Counts.{held_nowhere}
-use Rattle.tally.proofs.OfKey.{of_key_at}
-use Rattle.tally.proofs.Options.{cases_option}
-use Rattle.tally.proofs.Sameness.{Same}
+use Rattle.tally.proofs.OfKey.{holds_read, of_key_at}
 use Rattle.tally.specs.Arrivals.{latest, occurs, true_count}
 use Rattle.tally.specs.Owed.{Contains, held_below, holds}
-use Rattle.exactlog.specs.Logs.{Logged, in_order, kept, read_with, record_at, size}
-
-count_cons : {X : Type 0} (p : X → Bool) (x : X) (xs : List X) → count_by p (x ∷ xs) ≡ cond (p x) 1 0 + count_by p xs
-count_cons p x xs = sum_by-cons (λ y. cond (p y) 1 0) x xs
-
-count_append : {X : Type 0} (p : X → Bool) (xs ys : List X) → count_by p (xs ++ ys) ≡ count_by p xs + count_by p ys
-count_append p xs ys = sum_by-append (λ y. cond (p y) 1 0) xs ys
 
 -- the order does not matter
 count_in_order : {X : Type 0} (p : X → Bool) (next : ℕ) (ys : List X) → count_by p (in_order next ys) ≡ count_by p ys
-count_in_order p next ys = count_append p (drop next ys) (take next ys) ∙ omega (arith, sum_by-take-drop (λ y. cond (p y) 1 0) ys next)
+count_in_order p next ys = grind (arith, sum_by-append, sum_by-take-drop)
 
 count_reverse : {X : Type 0} (p : X → Bool) (ys : List X) → count_by p (reverse ys) ≡ count_by p ys
-count_reverse p [] = refl
-count_reverse p (y ∷ ys) =
-    let r = count_reverse p ys in
-    let a = count_cons p y ys in
-    let b = count_cons p y [] in
-    ap (count_by p) (reverse-append (y ∷ []) ys) ∙ count_append p (reverse ys) (y ∷ []) ∙ omega arith
+count_reverse p ys = sum_by-IsPermutation (λ y. cond (p y) 1 0) ys (reverse ys) (IsPermutation-reverse ys)
 
-module _ {K R : Type 0} (alike : K → K → Bool) (reads : R → Option K) (law : Same alike) (lies : K → R) (restored : (a : K) → reads (lies a) ≡ Some a) where
+module _ {K R : Type 0} (kind : KeyKind K R) (law : IsEquivalence kind.eq) (restored : (a : K) → kind.reads (kind.lies a) ≡ Some a) where
+  -- whether a record is that of a key
+  abbrev is : K → R → Bool
+  is k r = of_key kind.eq kind.reads k r
+
   -- records count as their keys do
-  count_records : (k : K) (zs : List K) → count_by (of_key alike reads k) (map lies zs) ≡ occurs alike k zs
+  count_records : (k : K) (zs : List K) → count_by (is k) (map kind.lies zs) ≡ occurs kind.eq k zs
   count_records k [] = refl
   count_records k (z ∷ zs) =
-      let r = count_records k zs in
-      count_cons (of_key alike reads k) (lies z) (map lies zs)
-      ∙ rw (of_key_at alike reads law k z (lies z) (restored z), r) (sym (count_cons (alike k) z zs))
-
-  pub exact_count : (n next : ℕ) (area : List R) (xs : List K) → Logged lies n next area xs → (k : K) → true_count alike (min n (size area)) k xs ≡ count_by (of_key alike reads k) (kept n area)
-  exact_count n next area xs v k =
-      sym (count_records k (latest (min n (size area)) xs))
-      ∙ ap (count_by (of_key alike reads k)) v.same
-      ∙ count_in_order (of_key alike reads k) next (kept n area)
-
-  kept_few : (n : ℕ) (area : List R) (k : K) → count_by (of_key alike reads k) (kept n area) ≤ 65536
-  kept_few n area k =
-      let l = count_by-le-length (of_key alike reads k) (kept n area) in
-      let m = length-take (min n (size area)) area in
-      omega arith
-
-  pub exact_contains : (n next : ℕ) (area : List R) (xs : List K) → Logged lies n next area xs → (k : K) (c : ℕ) → c ≡ count_by (of_key alike reads k) (kept n area) → Contains alike (min (min n 100_000_000) (size area)) k xs c c
-  exact_contains n next area xs v k c e =
-      let f = v.few in
-      let m : min (min n 100_000_000) (size area) ≡ min n (size area) = omega arith in
-      let t : true_count alike (min (min n 100_000_000) (size area)) k xs ≡ c = ap (λ (t : ℕ). true_count alike t k xs) m ∙ exact_count n next area xs v k ∙ sym e in
-      let b = kept_few n area k in
-      record { from = omega arith; upto = omega arith; bounded = omega arith }
-
-  holds_read : (k : K) (r : R) → holds alike k (reads r) ≡ of_key alike reads k r
-  holds_read k r =
-      ⊎_elim
-      (λ (t : reads r ≡ None). rw (t, of_key) refl)
-      (λ (t : (j : K) × (reads r ≡ Some j)). rw (t.1, of_key) refl)
-      (cases_option (reads r))
+      sum_by-cons (λ r. cond (is k r) 1 0) (kind.lies z) (map kind.lies zs)
+      ∙ rw (of_key_at kind.eq kind.reads law k z (kind.lies z) (restored z), count_records k zs) (sym (sum_by-cons (λ y. cond (kind.eq k y) 1 0) z zs))
 
   -- a key that no record is of
-  none_counted : (k : K) (zs : List R) → ((i : ℕ) → i < length zs → holds alike k (read_with reads (slice_get zs i)) ≡ false) → count_by (of_key alike reads k) zs ≡ 0
+  none_counted : (k : K) (zs : List R) → ((i : ℕ) → i < length zs → holds kind.eq k (read_with kind.reads (slice_get zs i)) ≡ false) → count_by (is k) zs ≡ 0
   none_counted k [] h = refl
   none_counted k (z ∷ zs) h =
-      let f : of_key alike reads k z ≡ false = sym (holds_read k z) ∙ h 0 (omega arith) in
-      let r = none_counted k zs (λ i l. h (suc i) (omega arith)) in
-      count_cons (of_key alike reads k) z zs ∙ rw (f, r) refl
+      let f : is k z ≡ false = sym (holds_read kind.eq kind.reads k z) ∙ h 0 (omega arith) in
+      grind (arith, sum_by-cons, f, none_counted k zs (λ i l. h (suc i) (omega arith)))
 
-  length_order : (n next : ℕ) (area : List R) → length (reverse (in_order next (kept n area))) ≤ size area
-  length_order n next area =
-      let a = length-reverse (in_order next (kept n area)) in
-      let b = length-append (drop next (kept n area)) (take next (kept n area)) in
-      let d = length-drop next (kept n area) in
-      let e = length-take next (kept n area) in
-      let f = length-take (min n (size area)) area in
-      omega arith
+  module _ (t : ExactLog K R) where
+    -- a log's records, oldest first
+    abbrev ordered : List R
+    ordered = in_order t.next (kept t.run.arrivals t.area.now)
 
-  -- a key held at no place is not counted
-  pub missed_none : (n next : ℕ) (area : List R) (k : K) → held_below alike (λ i. read_with reads (record_at n next area i)) k (size area) ≡ false → count_by (of_key alike reads k) (kept n area) ≡ 0
-  missed_none n next area k out =
-      let zs = reverse (in_order next (kept n area)) in
-      let few = length_order n next area in
-      let h = held_nowhere alike (λ i. read_with reads (record_at n next area i)) k (size area) out in
-      let none = none_counted k zs (λ i l. h i (omega arith)) in
-      sym (count_in_order (of_key alike reads k) next (kept n area))
-      ∙ sym (count_reverse (of_key alike reads k) (in_order next (kept n area)))
-      ∙ none
+    exact_count : (xs : List K) → vouches kind t xs → (k : K) → true_count kind.eq (min t.run.arrivals (reach_of t)) k xs ≡ count_in kind t k
+    exact_count xs v k =
+        sym (count_records k (latest (min t.run.arrivals (reach_of t)) xs))
+        ∙ ap (count_by (is k)) v.same
+        ∙ count_in_order (is k) t.next (kept t.run.arrivals t.area.now)
+
+    -- a key's true count is how often it stands in the log
+    pub exact_contains : (xs : List K) → vouches kind t xs → (k : K) → Contains kind.eq (min t.run.arrivals (reach_of t)) k xs (count_in kind t k) (count_in kind t k)
+    exact_contains xs v k =
+        let e = exact_count xs v k in
+        let l = count_by-le-length (is k) (kept t.run.arrivals t.area.now) in
+        let m = length-take (min t.run.arrivals (reach_of t)) t.area.now in
+        record { from = omega arith; upto = omega arith; bounded = omega arith }
+
+    length_ordered : length (reverse ordered) ≤ reach_of t
+    length_ordered = grind (arith, common_steps)
+
+    -- a key held at no place is not counted
+    pub missed_none : (k : K) → held_below kind.eq (key_at kind t) k (reach_of t) ≡ false → count_in kind t k ≡ 0
+    missed_none k out =
+        let few = length_ordered in
+        let h = held_nowhere kind.eq (key_at kind t) k (reach_of t) out in
+        let none = none_counted k (reverse ordered) (λ i l. h i (omega arith)) in
+        sym (count_in_order (is k) t.next (kept t.run.arrivals t.area.now)) ∙ sym (count_reverse (is k) ordered) ∙ none

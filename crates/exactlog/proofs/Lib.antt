@@ -1,4 +1,2 @@
-mod Back
-mod Counted
 mod Exact
 mod Kept

@@ -1,1 +1,2 @@
+pub mod ExactLog
 pub mod Logs

@@ -1,15 +1,10 @@
-use Rattle.std.specs.Prelude.{◌≡◌, ℕ, ◌+◌, ◌-◌, ◌<◌, ◌≤◌, min, Bool, cond, ◌&&◌, List, ◌++◌, map, reverse, length, take, drop, Some, None, Option, ◌==◌, nat_le, nat_lt, slice_set}
-use Rattle.std.specs.List.{slice_get}
+use Rattle.std.specs.Prelude.{◌≡◌, ℕ, ◌+◌, ◌-◌, ◌<◌, ◌≤◌, min, if◌then◌else◌, List, ◌++◌, map, reverse, length, take, drop, Some, None, Option, nat_lt, slice_get, slice_set}
 use Rattle.tally.specs.Arrivals.{latest}
 use Rattle.tally.specs.Owed.{most_arrivals}
 
--- whether a log can keep w arrivals: 1 to 65,536
-abbrev pub plannable : ℕ → Bool
-plannable w = nat_le 1 w && nat_le w 65536
-
--- whether a plan of w arrivals fits an area: w can be had, and the area has as many records
-abbrev pub plan_fits : ℕ → ℕ → Bool
-plan_fits w area = plannable w && area == w
+-- how many arrivals a log can keep, at most
+abbrev pub most_kept : ℕ
+most_kept = 65536
 
 -- the record of a key, read again
 abbrev pub read_with : {K R : Type 0} → (R → Option K) → Option R → Option K
@@ -19,7 +14,7 @@ read_with reads (Some r) = reads r
 module _ {R : Type 0} where
   -- how many arrivals an area keeps: one for each record, up to 65,536
   abbrev pub size : List R → ℕ
-  size area = min (length area) 65536
+  size area = min (length area) most_kept
 
   -- the records of the arrivals that are kept after n arrivals, as they lie in the area
   abbrev pub kept : ℕ → List R → List R
@@ -31,10 +26,10 @@ module _ {R : Type 0} where
 
   -- an arrival goes to the next place, and the place after the last is the first
   abbrev pub area_after : ℕ → R → List R → List R
-  area_after next r area = cond (nat_lt next (size area)) (slice_set area next r) area
+  area_after next r area = if nat_lt next (size area) then slice_set area next r else area
 
   abbrev pub next_after : ℕ → List R → ℕ
-  next_after next area = cond (nat_lt (next + 1) (size area)) (next + 1) 0
+  next_after next area = if nat_lt (next + 1) (size area) then next + 1 else 0
 
   -- places go from the newest arrival back
   abbrev pub record_at : ℕ → ℕ → List R → ℕ → Option R
@@ -44,7 +39,7 @@ module _ {R : Type 0} where
 abbrev pub back_of : ℕ → ℕ → ℕ → ℕ
 back_of next held place =
     let first = min next held in
-    cond (nat_lt (held - 1 - place) (held - first)) (first + (held - 1 - place)) (held - 1 - place - (held - first))
+    if nat_lt (held - 1 - place) (held - first) then first + (held - 1 - place) else held - 1 - place - (held - first)
 
 -- a log vouches for the lists of n arrivals whose latest it keeps, in order
 pub record Logged {K R : Type 0} (lies : K → R) (n next : ℕ) (area : List R) (xs : List K) : Type 0 where

@@ -1,63 +1,69 @@
-ghost use Rattle.std.specs.Prelude.{◌≡◌, min, true, length, count_by};
-ghost use Rattle.exactlog.specs.Logs.{Logged, kept, plannable, read_with, record_at, size};
-ghost use Rattle.keys.specs.OfKey.{of_key};
-ghost use Rattle.tally.specs.Owed.{most_arrivals};
+ghost use Rattle.std.specs.Prelude.{◌≡◌, IsTrue, length};
+ghost use Rattle.exactlog.specs.ExactLog.{count_in, key_at, reach_of, vouches};
+ghost use Rattle.exactlog.specs.Logs.{most_kept};
+ghost use Rattle.tally.specs.Plans.{plannable};
 
 use crate::log::ExactLog;
+use crate::places::record_back;
+use crate::records::count_of;
 use keys::key::Key;
 use keys::refusal::Refusal;
-use tally::{MOST_ARRIVALS, Tally};
+use tally::Tally;
 
 // The exact log as a tally: its reach is the number of arrivals that it keeps.
 impl<'a, K: Key> Tally for ExactLog<'a, K> {
     type Key = K;
 
-    ghost vouches = { λ t. Logged K.Key.lies t.noted t.next t.area.now };
+    ghost vouches = { vouches K.Key };
 
-    ghost planned = { λ t. plannable (length t.area.now) ≡ true };
+    ghost planned = { λ t. IsTrue (plannable most_kept (length t.area.now)) };
 
-    ghost noted = { λ t. min t.noted most_arrivals };
+    ghost noted = { λ t. t.run.arrivals };
 
-    ghost reaches = { λ t. size t.area.now };
+    ghost reaches = { reach_of };
 
-    ghost low = { λ t k. count_by (of_key K.Key.alike K.Key.reads k) (kept t.noted t.area.now) };
+    ghost low = { count_in K.Key };
 
-    ghost high = { λ t k. count_by (of_key K.Key.alike K.Key.reads k) (kept t.noted t.area.now) };
+    ghost high = { count_in K.Key };
 
     ghost wide = { λ t. 0 };
 
     ghost top = { λ t. 0 };
 
-    ghost spots = { λ t. size t.area.now };
+    ghost spots = { reach_of };
 
-    ghost held = { λ t i. read_with K.Key.reads (record_at t.noted t.next t.area.now i) };
+    ghost held = { key_at K.Key };
 
     fn arrivals(&self) -> u32 {
-        self.noted.min(MOST_ARRIVALS)
+        self.run.arrivals()
     }
 
     fn reach(&self) -> u32 {
         self.size() as u32
     }
 
+    // How often a key stands in the log: both ends of its range.
     fn range(&self, key: K) -> (u32, u32) {
-        self.ends(key)
+        let n = count_of(self.records(), key) as u32;
+        (n, n)
     }
 
     fn width(&self) -> u32 {
         0
     }
 
+    // A key held at no place does not stand in the log.
     fn ceiling(&self) -> u32 {
-        self.roof()
+        0
     }
 
     fn places(&self) -> usize {
         self.size()
     }
 
+    // The key of the arrival at a place, from the newest back.
     fn key_at(&self, place: usize) -> Option<K> {
-        self.key_back(place)
+        record_back(self.records(), self.next, place).and_then(|record| K::of_record(record))
     }
 
     fn note(&mut self, key: K) -> Result<(), Refusal> {

@@ -1,12 +1,15 @@
-ghost use Rattle.std.specs.Prelude.{◌≡◌, ◌+◌, ◌<◌, ◌≤◌, reverse, length, if◌then◌else◌, nat_lt, slice_set};
+ghost use Rattle.std.specs.Prelude.{◌≡◌, ◌+◌, ◌<◌, ◌≤◌, reverse, length, if◌then◌else◌, nat_lt, slice_get, slice_set};
 ghost use Rattle.exactlog.specs.Logs.{back_of, in_order};
-ghost use Rattle.std.specs.List.{slice_get};
 
-// Writes a record at a place among the first `size`, if it is one of them.
+// Places in a ring of records. Kept as numbers beside the area: the ring is a lent slice.
+
+// Writes a record at a place among the first `size`, if it is one of them. Kept beside the ring's
+// `set_level`: no crate below both is about areas.
 pub(crate) fn write_at<R: Copy>(area: &mut [R], size: usize, at: usize, record: R)
     requires { size ≤ length area.old }
     ensures { area.new ≡ (if nat_lt at size then slice_set area.old at «record» else area.old) }
 {
+    // Kept as a test: after `get_mut` of a slice a proof knows no element.
     if at < size {
         area[at] = record;
     }
@@ -24,19 +27,18 @@ pub(crate) fn after(at: usize, size: usize) -> usize
     }
 }
 
-// Where the record of a place lies, from the newest back, among so many that are held.
+// Where the record of a place lies, from the newest back, among so many that are held: those
+// before the next place, and then those from it on.
 fn back(next: usize, held: usize, place: usize) -> usize
     requires { place < held }
     ensures value { result ≡ back_of next held place }
     ensures within { result < held }
 {
-    let first = next.min(held);
-    let older = held - first;
-    let from_oldest = held - 1 - place;
-    if from_oldest < older {
-        first + from_oldest
+    let newer = next.min(held);
+    if place < newer {
+        newer - 1 - place
     } else {
-        from_oldest - older
+        held - 1 - (place - newer)
     }
 }
 
@@ -44,9 +46,9 @@ fn back(next: usize, held: usize, place: usize) -> usize
 pub(crate) fn record_back<R: Copy>(records: &[R], next: usize, place: usize) -> Option<R>
     ensures { result ≡ slice_get (reverse (in_order next records.now)) place }
 {
-    let held = records.len();
-    if place >= held {
-        return None;
+    if place < records.len() {
+        Some(records[back(next, records.len(), place)])
+    } else {
+        None
     }
-    Some(records[back(next, held, place)])
 }

@@ -1,3 +1,4 @@
 pub mod Flows
+pub mod Pieces
 pub mod Steps
 pub mod Texts

@@ -1,62 +1,59 @@
-ghost use Rattle.std.specs.Prelude.{◌≡◌, ◌≤◌};
+ghost use Rattle.std.specs.Prelude.{◌≡◌};
 ghost use Rattle.flowreport.specs.Flows.{answered, counted, reported};
-ghost use Rattle.keys.specs.Refusals.{told};
 
 use keys::refusal::Refusal;
-use keys::share::Fraction;
+use keys::share::{Fraction, Share};
 use records::record::Record;
-
-// How many events a run can hold.
-const MOST_EVENTS: u32 = 100_000_000;
+use tally::run::Run;
 
 // How many of the latest events are within reach: eight panes of 64.
 const REACH: u32 = 512;
 
 // What a report begins with: the events since the latest clear, and how many are within reach.
-#[derive(Clone, Copy)]
+// Kept beside the head of the crate `report`, which tells of listings that are not printed yet.
+#[derive(Clone, Copy, Debug, PartialEq, Eq)]
 pub(crate) struct Counts {
     pub(crate) n: u32,
     pub(crate) t: u32,
 }
 
+// What a record is answered: the counts that a report asks for, or the refusal.
+pub(crate) type Answer = Result<Option<Counts>, Refusal>;
+
 // The events taken since the latest clear.
 #[derive(Drop)]
 pub(crate) struct Flow {
-    events: u32,
-    ghost few: { events ≤ 100000000 },
+    run: Run,
 }
 
-fn report(n: u32, readers: Fraction, badges: Fraction) -> Result<Option<Counts>, Refusal>
-    ensures { told (λ x. x) result ≡ reported n readers badges }
+fn report(n: u32, readers: Fraction, badges: Fraction) -> Answer
+    ensures { result ≡ reported n readers badges }
 {
-    readers.share()?;
-    badges.share()?;
+    Share::try_from(readers)?;
+    Share::try_from(badges)?;
     Ok(Some(Counts { n, t: n.min(REACH) }))
 }
 
 impl Flow {
     pub(crate) fn new() -> Flow
-        ensures { result.events ≡ 0 }
+        ensures { result.run.arrivals ≡ 0 }
     {
-        Flow { events: 0 }
+        Flow { run: Run::new() }
     }
 
-    // Takes a record: the counts that a report asks for, or the refusal.
-    pub(crate) fn take(&mut self, heard: Record) -> Result<Option<Counts>, Refusal>
-        ensures answer { told (λ x. x) result ≡ answered self.old.events heard }
-        ensures after { self.new.events ≡ counted self.old.events heard }
+    // Takes a record, and answers it.
+    pub(crate) fn take(&mut self, heard: Record) -> Answer
+        ensures answer { result ≡ answered self.old.run.arrivals heard }
+        ensures after { self.new.run.arrivals ≡ counted self.old.run.arrivals heard }
     {
         match heard {
             Record::Event(_, _) => {
-                if self.events >= MOST_EVENTS {
-                    return Err(Refusal::RunFull);
-                }
-                self.events += 1;
+                self.run.add()?;
                 Ok(None)
             }
-            Record::Report(readers, badges) => report(self.events, readers, badges),
+            Record::Report(readers, badges) => report(self.run.arrivals(), readers, badges),
             Record::Clear => {
-                self.events = 0;
+                self.run = Run::new();
                 Ok(None)
             }
         }

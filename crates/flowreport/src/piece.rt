@@ -1,43 +1,34 @@
-ghost use Rattle.std.specs.Prelude.{◌≡◌, ◌+◌, ◌<◌, ◌≤◌, false, length, IfOk};
+ghost use Rattle.std.specs.Prelude.{◌≡◌, ◌≤◌, ◌<◌, ℕ, List, ◌++◌, length, string_bytes, IfOk, IfSome};
+ghost use Rattle.flowreport.specs.Pieces.{Taken};
 
 use crate::flow::Flow;
 use crate::step::{Step, take_front};
-use crate::text::lines;
-use std::alloc::{AllocError, Global};
+use crate::text::Lines;
+use std::alloc::AllocError;
 
-// How a piece of input was taken: how many of its bytes, and whether the program stops there.
-#[derive(Clone, Copy)]
-pub(crate) struct Taken {
-    pub(crate) used: usize,
-    pub(crate) stops: bool,
-}
-
-// Takes the whole records of a piece, and adds the lines that they print to the text. What is not
-// used is the beginning of a record.
+// Takes the whole records of a piece, and adds the lines that they print to the text. The result is
+// how many bytes are left over at the end, the beginning of a record; none where the program stops.
 pub(crate) fn take_piece(
     flow: &mut Flow,
-    heap: Global,
     bytes: &[u8],
     ended: bool,
     text: &mut String,
-) -> Result<Taken, AllocError>
-    ensures { IfOk result (λ t. (t.used ≤ length bytes.now) × (t.stops ≡ false → length bytes.now < t.used + 10)) }
+) -> Result<Option<usize>, AllocError>
+    ensures value { IfOk result (λ o. (lines : List ℕ) × (string_bytes text.new ≡ string_bytes text.old ++ lines) × Taken ended flow.old.run.arrivals bytes.now lines flow.new.run.arrivals o) }
+    ensures within { IfOk result (λ o. IfSome o (λ left. (left ≤ length bytes.now) × (left < 10))) }
 {
-    let mut used = 0;
-    while used < bytes.len() {
-        match take_front(flow, &bytes[used..], ended) {
-            Step::Wait => return Ok(Taken { used, stops: false }),
+    let mut rest = bytes;
+    loop {
+        match take_front(flow, rest, ended) {
+            Step::Wait => return Ok(Some(rest.len())),
             Step::Took(length, answer) => {
-                let more = lines(heap, answer)?;
-                text.push_str(more.as_str())?;
-                used += length;
+                write!(text, "{}", Lines(answer))?;
+                rest = &rest[length..];
             }
             Step::Stop(refusal) => {
-                let more = lines(heap, Err(refusal))?;
-                text.push_str(more.as_str())?;
-                return Ok(Taken { used, stops: true });
+                write!(text, "{}", Lines(Err(refusal)))?;
+                return Ok(None);
             }
         }
     }
-    Ok(Taken { used, stops: false })
 }

@@ -1,40 +1,37 @@
 ghost use Rattle.std.specs.Prelude.{◌≡◌, length};
-ghost use Rattle.flowreport.specs.Steps.{Within, events_after, step_of, step_read};
+ghost use Rattle.flowreport.specs.Steps.{Within, events_after, step_of};
 
-use crate::flow::{Counts, Flow};
+use crate::flow::{Answer, Flow};
 use keys::refusal::Refusal;
 use records::read::{front_mark, read_record};
 
-// What came of the bytes at hand.
-#[derive(Clone, Copy)]
+// What came of the bytes at hand. Kept as three cases: in nested Results a refusal would stand for an
+// answer and for a stop.
+#[derive(Clone, Copy, Debug, PartialEq, Eq)]
 pub(crate) enum Step {
     // Nothing is left, or only the beginning of a record that further input completes.
     Wait,
     // The record at the front has this length and got this answer.
-    Took(usize, Result<Option<Counts>, Refusal>),
+    Took(usize, Answer),
     // No record can be told apart from here on.
     Stop(Refusal),
 }
 
 // Takes the record at the front of the bytes; `ended` says that no input follows them.
 pub(crate) fn take_front(flow: &mut Flow, bytes: &[u8], ended: bool) -> Step
-    ensures value { step_read result ≡ step_of flow.old.events bytes.now ended }
+    ensures value { result ≡ step_of flow.old.run.arrivals bytes.now ended }
     ensures within { Within (length bytes.now) result }
-    ensures after { flow.new.events ≡ events_after flow.old.events bytes.now }
+    ensures after { flow.new.run.arrivals ≡ events_after flow.old.run.arrivals bytes.now }
 {
-    if bytes.len() == 0 {
+    if bytes.is_empty() {
         return Step::Wait;
     }
-    let mark = match front_mark(bytes) {
-        Ok(mark) => mark,
-        Err(Refusal::CutShort) => return if ended {
-            Step::Stop(Refusal::CutShort)
-        } else {
-            Step::Wait
-        },
+    let length = match front_mark(bytes) {
+        Ok(mark) => mark.length(),
+        Err(Refusal::CutShort) if !ended => return Step::Wait,
         Err(refusal) => return Step::Stop(refusal),
     };
-    let length = mark.length();
+    // Kept as a match: tried with `and_then`, and the proof did not close.
     match read_record(bytes) {
         Ok(found) => Step::Took(length, flow.take(found.0)),
         Err(refusal) => Step::Took(length, Err(refusal)),

@@ -1,3 +1,4 @@
+pub mod Kinds
 pub mod OfKey
 pub mod Readers
 pub mod Refusals

@@ -14,7 +14,7 @@ number_of RunFull = 7
 number_of TooFine = 8
 number_of PageShort = 9
 
--- what a call told: its value, as `f` reads it, or the number of the refusal
-abbrev pub told : {X Y : Type 0} → (X → Y) → Result X Refusal → Result Y ℕ
+-- what a call told: its value, as `f` reads it, or the refusal
+abbrev pub told : {X Y : Type 0} → (X → Y) → Result X Refusal → Result Y Refusal
 told f (Ok x) = Ok (f x)
-told f (Err e) = Err (number_of e)
+told f (Err e) = Err e

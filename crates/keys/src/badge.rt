@@ -1,11 +1,11 @@
-ghost use Rattle.std.specs.Prelude.{◌&&◌, [], ◌∷◌, Some, ◌==◌};
+ghost use Rattle.std.specs.Prelude.{[], ◌∷◌, Some};
 ghost use Rattle.std.proofs.Common.{rules};
 
 use crate::key::Key;
 
 // A badge: the code of the site that gave it out, and its card number there. Every such pair is a
 // badge, so it is its own record.
-#[derive(Clone, Copy)]
+#[derive(Clone, Copy, Debug, PartialEq, Eq)]
 pub struct Badge {
     pub site: u8,
     pub card: u16,
@@ -16,8 +16,6 @@ impl Key for Badge {
 
     ghost parts = { λ a. a.site ∷ (a.card ∷ []) };
 
-    ghost alike = { λ a b. (a.site == b.site) && a.card == b.card };
-
     ghost lies = { λ a. a };
 
     ghost reads = { λ r. Some r };
@@ -26,19 +24,9 @@ impl Key for Badge {
 
     ghost tells = { Prim.search rules };
 
-    ghost reflexive = { Prim.search rules };
-
-    ghost symmetric = { Prim.search rules };
-
-    ghost transitive = { Prim.search rules };
-
     ghost restored = { Prim.search rules };
 
     ghost faithful = { Prim.search rules };
-
-    fn same(self, other: Badge) -> bool {
-        self.site == other.site && self.card == other.card
-    }
 
     fn record(self) -> Badge {
         self

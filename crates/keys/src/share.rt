@@ -1,18 +1,16 @@
 ghost use Rattle.std.specs.Prelude.{◌≡◌, ◌≤◌};
-ghost use Rattle.keys.specs.Refusals.{told};
-ghost use Rattle.keys.specs.Shares.{passes, share_of};
 
 use crate::refusal::Refusal;
 
 // Two numbers p/q as they were given, which may be no share.
-#[derive(Clone, Copy)]
+#[derive(Clone, Copy, Debug, PartialEq, Eq)]
 pub struct Fraction {
     pub p: u16,
     pub q: u16,
 }
 
 // A share of the traffic: p/q, with 1 ≤ p ≤ q ≤ 1,000.
-#[derive(Clone, Copy)]
+#[derive(Clone, Copy, Debug, PartialEq, Eq)]
 pub struct Share {
     p: u16,
     q: u16,
@@ -21,19 +19,35 @@ pub struct Share {
     ghost coarse: { q ≤ 1000 },
 }
 
-impl Fraction {
-    // The share that the two numbers make; otherwise refused as an impossible share.
-    pub fn share(self) -> Result<Share, Refusal>
-        ensures { told (λ s. (s.p, s.q)) result ≡ share_of self.p self.q }
-    {
-        if self.p < 1 || self.p > self.q || self.q > 1000 {
+// Two numbers that make no share are refused as an impossible share.
+impl TryFrom<Fraction> for Share {
+    ghost use Rattle.keys.specs.Refusals.{told};
+    ghost use Rattle.keys.specs.Shares.{share_of};
+
+    type Error = Refusal;
+
+    ghost try_from_gives = { λ f r. told (λ s. (s.p, s.q)) r ≡ share_of f.p f.q };
+
+    fn try_from(Fraction { p, q }: Fraction) -> Result<Share, Refusal> {
+        if p < 1 || p > q || q > 1000 {
             return Err(Refusal::ImpossibleShare);
         }
-        Ok(Share {
-            p: self.p,
-            q: self.q,
-        })
+        Ok(Share { p, q })
     }
+}
+
+// The two numbers of a share.
+impl From<Share> for Fraction {
+    ghost from_gives = { λ s f. f ≡ record { p = s.p; q = s.q } };
+
+    fn from(share: Share) -> Fraction {
+        let Share { p, q } = share;
+        Fraction { p, q }
+    }
+}
+
+impl Fraction {
+    ghost use Rattle.keys.specs.Shares.{passes};
 
     // Whether a part is more than p/q of the whole.
     pub fn passed_by(self, part: u32, whole: u32) -> bool
@@ -45,18 +59,12 @@ impl Fraction {
 }
 
 impl Share {
+    ghost use Rattle.keys.specs.Shares.{passes};
+
     // Whether a part is more than this share of the whole.
     pub fn passed_by(self, part: u32, whole: u32) -> bool
         ensures { result ≡ passes self.p self.q part whole }
     {
-        u64::from(part) * u64::from(self.q) > u64::from(self.p) * u64::from(whole)
-    }
-
-    // The two numbers of the share.
-    pub fn fraction(self) -> Fraction
-        ensures { result ≡ record { p = self.p; q = self.q } }
-    {
-        let (p, q) = (self.p, self.q);
-        Fraction { p, q }
+        Fraction::from(self).passed_by(part, whole)
     }
 }

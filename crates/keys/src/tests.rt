@@ -2,14 +2,11 @@ use crate::badge::Badge;
 use crate::key::Key;
 use crate::reader::Reader;
 use crate::refusal::Refusal;
-use crate::share::Fraction;
+use crate::share::{Fraction, Share};
 use std::test::Fail;
 
-fn share_refused(p: u16, q: u16) -> u8 {
-    match (Fraction { p, q }).share() {
-        Ok(_) => 0,
-        Err(refusal) => refusal.number(),
-    }
+fn share_refused(p: u16, q: u16) -> Option<Refusal> {
+    Share::try_from(Fraction { p, q }).err()
 }
 
 #[test]
@@ -27,21 +24,17 @@ fn refusals_are_numbered(rt: HostRuntime) {
 
 #[test]
 fn readers_begin_at_one(rt: HostRuntime) -> Result<(), Fail> {
-    assert!(rt; Reader::new(0).is_none());
+    assert!(rt; Reader::try_from(0).is_err());
     assert!(rt; <Reader as Key>::of_record(0).is_none());
-    let Some(first) = Reader::new(1) else {
-        return Err(Fail::new("no reader 1"));
-    };
-    let Some(last) = Reader::new(65535) else {
-        return Err(Fail::new("no reader 65535"));
-    };
-    assert_eq!(rt; last.number(), 65535);
-    assert!(rt; first.same(first));
-    assert!(rt; !first.same(last));
+    let first = Reader::try_from(1)?;
+    let last = Reader::try_from(65535)?;
+    assert_eq!(rt; u16::from(last), 65535);
+    assert!(rt; first == first);
+    assert!(rt; first != last);
     let Some(again) = <Reader as Key>::of_record(last.record()) else {
         return Err(Fail::new("record lost"));
     };
-    assert_eq!(rt; again.number(), 65535);
+    assert_eq!(rt; u16::from(again), 65535);
     Ok(())
 }
 
@@ -52,49 +45,55 @@ fn badges_agree_in_both_parts(rt: HostRuntime) -> Result<(), Fail> {
         card: 500,
     };
     assert!(rt;
-        a.same(Badge {
+        a == Badge {
             site: 12,
-            card: 500,
-        })
+            card: 500
+        }
     );
     assert!(rt;
-        !a.same(Badge {
+        a != Badge {
             site: 13,
-            card: 500,
-        })
+            card: 500
+        }
     );
     assert!(rt;
-        !a.same(Badge {
+        a != Badge {
             site: 12,
-            card: 501,
-        })
+            card: 501
+        }
     );
     let Some(again) = <Badge as Key>::of_record(a.record()) else {
         return Err(Fail::new("record lost"));
     };
-    assert!(rt; again.same(a));
+    assert!(rt; again == a);
     Ok(())
 }
 
 #[test]
 fn shares_have_limits(rt: HostRuntime) {
-    assert_eq!(rt; share_refused(1, 1), 0);
-    assert_eq!(rt; share_refused(1, 1000), 0);
-    assert_eq!(rt; share_refused(1000, 1000), 0);
-    assert_eq!(rt; share_refused(0, 1), 5);
-    assert_eq!(rt; share_refused(0, 0), 5);
-    assert_eq!(rt; share_refused(2, 1), 5);
-    assert_eq!(rt; share_refused(1, 1001), 5);
-    assert_eq!(rt; share_refused(1, 65535), 5);
+    assert_eq!(rt; share_refused(1, 1), None);
+    assert_eq!(rt; share_refused(1, 1000), None);
+    assert_eq!(rt; share_refused(1000, 1000), None);
+    assert_eq!(rt; share_refused(0, 1), Some(Refusal::ImpossibleShare));
+    assert_eq!(rt; share_refused(0, 0), Some(Refusal::ImpossibleShare));
+    assert_eq!(rt; share_refused(2, 1), Some(Refusal::ImpossibleShare));
+    assert_eq!(rt; share_refused(1, 1001), Some(Refusal::ImpossibleShare));
+    assert_eq!(rt; share_refused(1, 65535), Some(Refusal::ImpossibleShare));
 }
 
 #[test]
 fn equality_passes_no_share(rt: HostRuntime) -> Result<(), Fail> {
-    let Ok(quarter) = (Fraction { p: 1, q: 4 }).share() else {
-        return Err(Fail::new("refused"));
-    };
+    let quarter = Share::try_from(Fraction { p: 1, q: 4 })?;
     assert!(rt; !quarter.passed_by(2, 8));
     assert!(rt; quarter.passed_by(2, 7));
     assert!(rt; !quarter.passed_by(0, 0));
+    Ok(())
+}
+
+#[test]
+fn refusals_are_told_and_ordered_by_number(rt: HostRuntime) -> Result<(), Fail> {
+    let told = Refusal::TooFine.to_string(rt.alloc())?;
+    assert_eq!(rt; told.as_str(), "8");
+    assert_eq!(rt; Refusal::PageShort.min(Refusal::RunFull).number(), 7);
     Ok(())
 }

@@ -4,8 +4,4 @@ use Rattle.tally.proofs.Counts.{true_count_below}
 use Rattle.tally.specs.Owed.{Contains}
 
 pub lowered : {K : Type 0} (alike : K → K → Bool) (t : ℕ) (k : K) (xs : List K) (low high : ℕ) → Contains alike t k xs low high → Contains alike t k xs low (min high t)
-lowered alike t k xs low high h =
-    let b = true_count_below alike t k xs in
-    let u = h.upto in
-    let m = h.bounded in
-    record { from = h.from; upto = omega arith; bounded = omega arith }
+lowered alike t k xs low high h = grind (arith, h.from, h.upto, h.bounded, true_count_below alike t k xs)

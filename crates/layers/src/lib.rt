@@ -2,6 +2,4 @@
 #![tactic(auto)]
 
 pub mod trim;
-mod trimmed;
 pub mod watch;
-pub mod watch_tally;

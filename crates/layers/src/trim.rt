@@ -1,6 +1,6 @@
 ghost use Rattle.std.specs.Prelude.{◌≡◌, min};
+ghost use Rattle.tally.specs.Within.{within};
 
-use crate::trimmed::{trimmed_ceiling, trimmed_range, trimmed_width};
 use keys::refusal::Refusal;
 use tally::Tally;
 
@@ -32,11 +32,11 @@ impl<T: Tally> Tally for Trim<T> {
 
     ghost low = { λ t. T.Tally.low t.below };
 
-    ghost high = { λ t k. min (T.Tally.high t.below k) (min (T.Tally.noted t.below) (T.Tally.reaches t.below)) };
+    ghost high = { λ t k. min (T.Tally.high t.below k) (within T.Tally t.below) };
 
-    ghost wide = { λ t. min (T.Tally.wide t.below) (min (T.Tally.noted t.below) (T.Tally.reaches t.below)) };
+    ghost wide = { λ t. min (T.Tally.wide t.below) (within T.Tally t.below) };
 
-    ghost top = { λ t. min (T.Tally.top t.below) (min (T.Tally.noted t.below) (T.Tally.reaches t.below)) };
+    ghost top = { λ t. min (T.Tally.top t.below) (within T.Tally t.below) };
 
     ghost spots = { λ t. T.Tally.spots t.below };
 
@@ -51,15 +51,16 @@ impl<T: Tally> Tally for Trim<T> {
     }
 
     fn range(&self, key: T::Key) -> (u32, u32) {
-        trimmed_range(&self.below, key)
+        let (low, high) = self.below.range(key);
+        (low, high.min(self.below.within()))
     }
 
     fn width(&self) -> u32 {
-        trimmed_width(&self.below)
+        self.below.width().min(self.below.within())
     }
 
     fn ceiling(&self) -> u32 {
-        trimmed_ceiling(&self.below)
+        self.below.ceiling().min(self.below.within())
     }
 
     fn places(&self) -> usize {

@@ -1,10 +1,7 @@
-ghost use Rattle.std.specs.Prelude.{◌≡◌, ◌+◌, ◌≤◌, min, true, false, List, [], ◌∷◌, ◌++◌, length, if◌then◌else◌, Ok, Err, MatchResult, ◌==◌, nat_eq, nat_le};
-ghost use Rattle.keys.specs.OfKey.{of_key};
-ghost use Rattle.keys.specs.Refusals.{number_of, told};
+ghost use Rattle.std.specs.Prelude.{◌≡◌, ◌+◌, ◌≤◌, true, List, [], ◌∷◌, ◌++◌, length, if◌then◌else◌, Ok, Err, MatchResult, ◌==◌, nat_eq};
 ghost use Rattle.keys.specs.declared.refusal.Refusal.TheVariants.{RunFull};
-ghost use Rattle.layers.specs.Watched.{Watches, grown, high_of, low_of};
-ghost use Rattle.tally.specs.Arrivals.{true_count};
-ghost use Rattle.tally.specs.Owed.{Contains, held_below, most_arrivals, most_end};
+ghost use Rattle.layers.specs.Watched.{Noted, Watches, high_of, is_whole, low_of, watch_high, watch_low};
+ghost use Rattle.tally.specs.Owed.{most_arrivals};
 
 use keys::key::{Key, same_key};
 use keys::refusal::Refusal;
@@ -14,53 +11,39 @@ use tally::Tally;
 // them exactly while the whole run is within reach.
 #[derive(Drop)]
 pub struct Watch<T: Tally> {
-    pub(crate) below: T,
-    pub(crate) key: <T::Key as Key>::Record,
-    pub(crate) seen: u32,
-    // False where the tally below had arrivals at opening, until a clear.
-    pub(crate) fresh: bool,
-}
-
-// A count after an arrival, which may be one more of the key.
-fn grow(one_more: bool, seen: u32) -> u32
-    ensures { result ≡ grown one_more seen }
-{
-    if one_more {
-        seen.saturating_add(1)
-    } else {
-        seen
-    }
+    below: T,
+    key: <T::Key as Key>::Record,
+    seen: u32,
+    // False where the tally below had arrivals at opening, until a clear: what is vouched for hangs on
+    // it. Kept as a flag: the range goes by the count in both states, so no Option says it plainer, and
+    // a ghost field holds a fact and no value.
+    fresh: bool,
 }
 
 // Whether the whole run is within reach.
-fn is_whole<T: Tally>(t: &T) -> bool
-    ensures value { result ≡ nat_le (T.Tally.noted t.now) (T.Tally.reaches t.now) }
-    ensures few { T.Tally.noted t.now ≤ most_arrivals }
+fn is_whole<T: Tally>(tally: &T) -> bool
+    ensures { result ≡ is_whole T.Tally tally.now }
 {
-    t.arrivals() <= t.reach()
+    tally.arrivals() <= tally.reach()
 }
 
-// The ends of a range over those below.
+// The ends of a range over those below. Kept with two tests beside the count: in all three cases the
+// ends are said of it, and an Option would hide which of them is meant.
 fn pick(watched: bool, whole: bool, seen: u32, below: (u32, u32)) -> (u32, u32)
     ensures { result ≡ (low_of watched whole seen below.0, high_of watched whole seen below.1) }
 {
-    if !watched {
-        return below;
-    }
-    if whole {
-        (seen, seen)
-    } else {
-        (below.0, seen.min(below.1))
+    match (watched, whole) {
+        (false, _) => below,
+        (true, true) => (seen, seen),
+        (true, false) => (below.0, seen.min(below.1)),
     }
 }
 
 impl<T: Tally> Watch<T> {
     // Watches a key over a tally. Over one that has arrivals it vouches for no list until a clear.
     pub fn over(below: T, key: T::Key) -> Self
-        ensures below { result.below ≡ below }
-        ensures watched { result.key ≡ T.Key.Key.lies key }
-        ensures start { (result.seen ≡ 0) × (result.fresh ≡ (T.Tally.noted below == 0)) }
-        ensures vouched { T.Tally.noted below ≡ 0 → T.Tally.vouches below [] → Watches T.Key.Key.alike T.Key.Key.reads (T.Tally.vouches result.below) (T.Tally.noted result.below) result.key result.seen result.fresh [] }
+        ensures start { result ≡ record { below = below; key = T.Key.Key.lies key; seen = 0; fresh = (T.Tally.noted below == 0) } }
+        ensures vouched { T.Tally.noted below ≡ 0 → T.Tally.vouches below [] → Watches T.Key.Key T.Tally result [] }
     {
         let fresh = below.arrivals() == 0;
         Watch {
@@ -73,58 +56,92 @@ impl<T: Tally> Watch<T> {
 
     // Notes an arrival below, and counts it where it is the watched key's.
     pub fn count(&mut self, key: T::Key) -> Result<(), Refusal>
-        ensures answer { told (λ u. u) result ≡ (if nat_eq (T.Tally.noted self.old.below) most_arrivals then Err (number_of RunFull) else Ok tt) }
-        ensures kept { (self.new.key ≡ self.old.key) × (self.new.fresh ≡ self.old.fresh) }
+        ensures answer { result ≡ (if nat_eq (T.Tally.noted self.old.below) most_arrivals then Err RunFull else Ok tt) }
         ensures plan { T.Tally.planned self.old.below → T.Tally.planned self.new.below }
         ensures few { T.Tally.noted self.old.below ≤ most_arrivals }
-        ensures counted { (xs : List T.Key) → Watches T.Key.Key.alike T.Key.Key.reads (T.Tally.vouches self.old.below) (T.Tally.noted self.old.below) self.old.key self.old.seen self.old.fresh xs → length xs ≡ T.Tally.noted self.old.below }
-        ensures after { MatchResult result (λ _. (T.Tally.noted self.new.below ≡ T.Tally.noted self.old.below + 1) × ((xs : List T.Key) → Watches T.Key.Key.alike T.Key.Key.reads (T.Tally.vouches self.old.below) (T.Tally.noted self.old.below) self.old.key self.old.seen self.old.fresh xs → Watches T.Key.Key.alike T.Key.Key.reads (T.Tally.vouches self.new.below) (T.Tally.noted self.new.below) self.new.key self.new.seen self.new.fresh (xs ++ (key ∷ [])))) (λ _. self.new ≡ self.old) }
-        ensures seen { MatchResult result (λ _. self.new.seen ≡ grown (of_key T.Key.Key.alike T.Key.Key.reads key self.old.key) self.old.seen) (λ _. self.new.seen ≡ self.old.seen) }
+        ensures counted { (xs : List T.Key) → Watches T.Key.Key T.Tally self.old xs → length xs ≡ T.Tally.noted self.old.below }
+        ensures after { MatchResult result (λ _. Noted T.Key.Key T.Tally self.old key self.new) (λ _. self.new ≡ self.old) }
     {
         let watched = same_key(self.key, key);
         self.below.note(key)?;
-        self.seen = grow(watched, self.seen);
+        self.seen = self.seen.saturating_add(u32::from(watched));
         Ok(())
     }
 
     // Clears the tally below and starts to count anew.
     pub fn restart(&mut self)
-        ensures start { (self.new.key ≡ self.old.key) × (self.new.seen ≡ 0) × (self.new.fresh ≡ true) }
+        ensures start { self.new ≡ record self.old { below = self.new.below; seen = 0; fresh = true } }
         ensures plan { T.Tally.planned self.old.below → T.Tally.planned self.new.below }
         ensures counted { T.Tally.noted self.new.below ≡ 0 }
-        ensures vouched { Watches T.Key.Key.alike T.Key.Key.reads (T.Tally.vouches self.new.below) (T.Tally.noted self.new.below) self.new.key self.new.seen self.new.fresh [] }
+        ensures vouched { Watches T.Key.Key T.Tally self.new [] }
     {
         self.below.clear();
         self.seen = 0;
         self.fresh = true;
     }
+}
 
-    // The range of a key over the one below.
-    pub(crate) fn ends(&self, key: T::Key) -> (u32, u32)
-        ensures value { result ≡ (low_of (of_key T.Key.Key.alike T.Key.Key.reads key self.now.key) (nat_le (T.Tally.noted self.now.below) (T.Tally.reaches self.now.below)) self.now.seen (T.Tally.low self.now.below key), high_of (of_key T.Key.Key.alike T.Key.Key.reads key self.now.key) (nat_le (T.Tally.noted self.now.below) (T.Tally.reaches self.now.below)) self.now.seen (T.Tally.high self.now.below key)) }
-        ensures truth { (xs : List T.Key) → Watches T.Key.Key.alike T.Key.Key.reads (T.Tally.vouches self.now.below) (T.Tally.noted self.now.below) self.now.key self.now.seen self.now.fresh xs → Contains T.Key.Key.alike (min (T.Tally.noted self.now.below) (T.Tally.reaches self.now.below)) key xs result.0 result.1 }
-    {
-        let below = self.below.range(key);
-        let whole = is_whole(&self.below);
-        pick(same_key(self.key, key), whole, self.seen, below)
+impl<T: Tally> Tally for Watch<T> {
+    type Key = T::Key;
+
+    ghost vouches = { Watches T.Key.Key T.Tally };
+
+    ghost planned = { λ w. T.Tally.planned w.below };
+
+    ghost noted = { λ w. T.Tally.noted w.below };
+
+    ghost reaches = { λ w. T.Tally.reaches w.below };
+
+    ghost low = { watch_low T.Key.Key T.Tally };
+
+    ghost high = { watch_high T.Key.Key T.Tally };
+
+    ghost wide = { λ w. T.Tally.wide w.below };
+
+    ghost top = { λ w. T.Tally.top w.below };
+
+    ghost spots = { λ w. T.Tally.spots w.below };
+
+    ghost held = { λ w. T.Tally.held w.below };
+
+    fn arrivals(&self) -> u32 {
+        self.below.arrivals()
     }
 
-    // The width below: no range gets wider.
-    pub(crate) fn spread(&self) -> u32
-        ensures value { result ≡ T.Tally.wide self.now.below }
-        ensures narrow { (xs : List T.Key) → Watches T.Key.Key.alike T.Key.Key.reads (T.Tally.vouches self.now.below) (T.Tally.noted self.now.below) self.now.key self.now.seen self.now.fresh xs → (k : T.Key) → high_of (of_key T.Key.Key.alike T.Key.Key.reads k self.now.key) (nat_le (T.Tally.noted self.now.below) (T.Tally.reaches self.now.below)) self.now.seen (T.Tally.high self.now.below k) ≤ low_of (of_key T.Key.Key.alike T.Key.Key.reads k self.now.key) (nat_le (T.Tally.noted self.now.below) (T.Tally.reaches self.now.below)) self.now.seen (T.Tally.low self.now.below k) + result }
-        ensures bounded { (xs : List T.Key) → Watches T.Key.Key.alike T.Key.Key.reads (T.Tally.vouches self.now.below) (T.Tally.noted self.now.below) self.now.key self.now.seen self.now.fresh xs → result ≤ most_end }
-    {
+    fn reach(&self) -> u32 {
+        self.below.reach()
+    }
+
+    fn range(&self, key: T::Key) -> (u32, u32) {
+        let below = self.below.range(key);
+        let watched = same_key(self.key, key);
+        pick(watched, is_whole(&self.below), self.seen, below)
+    }
+
+    // No range gets wider.
+    fn width(&self) -> u32 {
         self.below.width()
     }
 
-    // The ceiling below: a watched key that is held nowhere has come at most that often too.
-    pub(crate) fn roof(&self) -> u32
-        ensures value { result ≡ T.Tally.top self.now.below }
-        ensures ranges { (xs : List T.Key) → Watches T.Key.Key.alike T.Key.Key.reads (T.Tally.vouches self.now.below) (T.Tally.noted self.now.below) self.now.key self.now.seen self.now.fresh xs → (k : T.Key) → Contains T.Key.Key.alike (min (T.Tally.noted self.now.below) (T.Tally.reaches self.now.below)) k xs (low_of (of_key T.Key.Key.alike T.Key.Key.reads k self.now.key) (nat_le (T.Tally.noted self.now.below) (T.Tally.reaches self.now.below)) self.now.seen (T.Tally.low self.now.below k)) (high_of (of_key T.Key.Key.alike T.Key.Key.reads k self.now.key) (nat_le (T.Tally.noted self.now.below) (T.Tally.reaches self.now.below)) self.now.seen (T.Tally.high self.now.below k)) }
-        ensures missed { (xs : List T.Key) → Watches T.Key.Key.alike T.Key.Key.reads (T.Tally.vouches self.now.below) (T.Tally.noted self.now.below) self.now.key self.now.seen self.now.fresh xs → (k : T.Key) → held_below T.Key.Key.alike (T.Tally.held self.now.below) k (T.Tally.spots self.now.below) ≡ false → (high_of (of_key T.Key.Key.alike T.Key.Key.reads k self.now.key) (nat_le (T.Tally.noted self.now.below) (T.Tally.reaches self.now.below)) self.now.seen (T.Tally.high self.now.below k) ≤ result) × (true_count T.Key.Key.alike (min (T.Tally.noted self.now.below) (T.Tally.reaches self.now.below)) k xs ≤ result) }
-        ensures bounded { (xs : List T.Key) → Watches T.Key.Key.alike T.Key.Key.reads (T.Tally.vouches self.now.below) (T.Tally.noted self.now.below) self.now.key self.now.seen self.now.fresh xs → result ≤ most_end }
-    {
+    // A watched key that is held nowhere has come at most as often as the ceiling below, too.
+    #[tactic(auto, using(crate::proofs::Watching::watched_missed))]
+    fn ceiling(&self) -> u32 {
         self.below.ceiling()
+    }
+
+    fn places(&self) -> usize {
+        self.below.places()
+    }
+
+    fn key_at(&self, place: usize) -> Option<T::Key> {
+        self.below.key_at(place)
+    }
+
+    fn note(&mut self, key: T::Key) -> Result<(), Refusal> {
+        self.count(key)
+    }
+
+    fn clear(&mut self) {
+        self.restart();
     }
 }

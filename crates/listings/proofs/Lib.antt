@@ -1,5 +1,5 @@
 pub mod BadgeLaws
-mod Gates
-mod HeldBefore
+mod Elements
+pub mod Gates
 pub mod ReaderLaws
-mod Somes
+mod Rows

@@ -4,7 +4,9 @@
 
 pub mod badge_listing;
 mod badges;
-pub mod latest;
 pub mod reader_listing;
 mod readers;
+mod room;
 pub mod row;
+#[cfg(test)]
+mod tests;

@@ -1,79 +1,37 @@
-ghost use Rattle.std.specs.Prelude.{◌≡◌, Some};
-ghost use Rattle.listings.specs.Listings.{row_held};
-ghost use Rattle.tally.specs.Owed.{held_below, holds};
-
-use crate::latest::within;
 use crate::row::ReaderRow;
 use keys::key::Key;
-use keys::share::Fraction;
+use keys::refusal::Refusal;
+use keys::share::{Fraction, Share};
 use pages::source::Source;
 use tally::Tally;
-
-// Whether a place holds a key.
-fn is_held<A: Key>(held: Option<A>, key: A) -> bool
-    ensures { result ≡ holds A.Key.alike key held }
-{
-    match held {
-        Some(other) => key.same(other),
-        None => false,
-    }
-}
-
-// Whether one of the places before this one holds a key.
-fn is_held_before<A: Key, T: Tally<Key = A>>(tally: &T, key: A, place: usize) -> bool
-    ensures { result ≡ held_below A.Key.alike (T.Tally.held tally.now) key place }
-{
-    for i in 0..place {
-        if is_held(tally.key_at(i), key) {
-            return true;
-        }
-    }
-    false
-}
-
-// The row of a key at a place, if it is to be named there.
-fn row_of<A: Key, T: Tally<Key = A>>(
-    tally: &T,
-    share: Fraction,
-    place: usize,
-    key: A,
-) -> Option<ReaderRow<A::Record>>
-    ensures { result ≡ row_held A.Key T.Tally tally.now share.p share.q place (Some key) }
-{
-    let (low, high) = tally.range(key);
-    if share.passed_by(high, within(tally)) && !is_held_before(tally, key, place) {
-        Some(ReaderRow {
-            key: key.record(),
-            low,
-            high,
-        })
-    } else {
-        None
-    }
-}
-
-// The row of a place, if it has one.
-fn row_at<A: Key, T: Tally<Key = A>>(
-    tally: &T,
-    share: Fraction,
-    place: usize,
-) -> Option<ReaderRow<A::Record>>
-    ensures { result ≡ row_held A.Key T.Tally tally.now share.p share.q place (T.Tally.held tally.now place) }
-{
-    match tally.key_at(place) {
-        Some(key) => row_of(tally, share, place, key),
-        None => None,
-    }
-}
 
 // What the reader listing goes through: the tally's places, at a share of T.
 #[derive(Drop)]
 pub(crate) struct Chosen<'t, A: Key, T: Tally<Key = A>> {
-    pub(crate) tally: &'t T,
-    pub(crate) share: Fraction,
+    tally: &'t T,
+    share: Share,
+}
+
+impl<'t, A: Key, T: Tally<Key = A>> Chosen<'t, A, T> {
+    ghost use Rattle.std.specs.Prelude.{◌≡◌, Ok};
+    ghost use Rattle.keys.specs.Refusals.{told};
+    ghost use Rattle.listings.specs.Listings.{passed, reader_gate, reader_rows};
+
+    // A tally at a share at which no key held nowhere could be above, or the refusal.
+    pub(crate) fn at(tally: &'t T, share: Fraction) -> Result<Self, Refusal>
+        ensures { told (λ c. reader_rows A.Key T.Tally c.tally.now c.share.p c.share.q) result ≡ passed (reader_gate A.Key T.Tally tally.now share.p share.q) (Ok (reader_rows A.Key T.Tally tally.now share.p share.q)) }
+    {
+        let share = Share::try_from(share)?;
+        if share.passed_by(tally.ceiling(), tally.within()) {
+            return Err(Refusal::TooFine);
+        }
+        Ok(Chosen { tally, share })
+    }
 }
 
 impl<'t, A: Key, T: Tally<Key = A>> Source for Chosen<'t, A, T> {
+    ghost use Rattle.listings.specs.Listings.{row_held};
+
     type Row = ReaderRow<A::Record>;
 
     ghost size = { λ c. T.Tally.spots c.tally.now };
@@ -85,6 +43,14 @@ impl<'t, A: Key, T: Tally<Key = A>> Source for Chosen<'t, A, T> {
     }
 
     fn row_at(&self, place: usize) -> Option<ReaderRow<A::Record>> {
-        row_at(self.tally, self.share, place)
+        let key = self.tally.key_at(place)?;
+        let (low, high) = self.tally.range(key);
+        let passes = self.share.passed_by(high, self.tally.within());
+        let is_named = passes && !self.tally.is_held_before(key, place);
+        is_named.then_some(ReaderRow {
+            key: key.record(),
+            low,
+            high,
+        })
     }
 }

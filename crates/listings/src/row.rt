@@ -1,5 +1,5 @@
 // A listed reader: its record, and its range.
-#[derive(Clone, Copy)]
+#[derive(Clone, Copy, Debug, PartialEq, Eq)]
 pub struct ReaderRow<R> {
     pub key: R,
     pub low: u32,
@@ -7,7 +7,8 @@ pub struct ReaderRow<R> {
 }
 
 // A listed badge at a reader: both records, and the badge's range there.
-#[derive(Clone, Copy)]
+// Kept beside the other row: one generic row would name neither a reader nor a badge.
+#[derive(Clone, Copy, Debug, PartialEq, Eq)]
 pub struct BadgeRow<R, S> {
     pub reader: R,
     pub badge: S,

@@ -1,5 +1,6 @@
 mod Batches
-mod Events
+mod Books
+mod KeyKinds
 mod Promises
+mod Replies
 mod Reports
-mod Steps

@@ -1,9 +1,9 @@
-use Rattle.std.specs.Prelude.{Bool, cond, ◌||◌, List, [], ◌∷◌, ◌++◌, length, Some, None, Option, ◌==◌}
+use Rattle.std.specs.Prelude.{Bool, if◌then◌else◌, ◌||◌, List, [], ◌∷◌, ◌++◌, length, Some, None, Option, ◌==◌}
 use Rattle.badgetable.specs.Tables.{accounts_for}
-use Rattle.badgetable.specs.declared.table.BadgeTable.{BadgeTable}
-use Rattle.keys.specs.declared.key.Key.{Ghosts as KeyKind}
+use Rattle.keys.specs.Kinds.{KeyKind}
 use Rattle.meter.specs.declared.call.Call.{Call}
 use Rattle.meter.specs.declared.call.Call.TheVariants.{BadgeRange, Clear, Event, Judge, ListBadges, ListReaders, ReaderRange, Report}
+use Rattle.meter.specs.declared.state.Meter.{Meter}
 use Rattle.tally.specs.Owed.{most_arrivals}
 use Rattle.tally.specs.declared.Tally.{Ghosts as TallyKind}
 
@@ -20,7 +20,7 @@ module _ {A B : Type 0} where
   -- an event in the book: its reader is put last in the first list, and with its badge last in the second
   abbrev pub with_event : A → B → Book A B → Book A B
   with_event x y b =
-      cond (is_full b) b (record { readers = b.readers ++ (x ∷ []); shown = b.shown ++ ((x, y) ∷ []) })
+      if is_full b then b else record { readers = b.readers ++ (x ∷ []); shown = b.shown ++ ((x, y) ∷ []) }
 
   -- a book that has not begun yet stays so
   abbrev pub entered : A → B → Option (Book A B) → Option (Book A B)
@@ -43,9 +43,9 @@ module _ {A B : Type 0} where
   booked b [] = b
   booked b (c ∷ cs) = booked (after b c) cs
 
--- a book agrees with a tally and a badge table: the tally vouches for its first list, and the table accounts for its second.
--- Nothing is asked of a book that has not begun
-abbrev pub Agrees : {A B R Q S : Type 0} → KeyKind A R → KeyKind B Q → TallyKind S A R → S → BadgeTable A B R Q → Option (Book A B) → Type 0
-Agrees ka kb t s d None = Unit {0}
-Agrees ka kb t s d (Some b) =
-    t.vouches s b.readers × accounts_for ka.alike ka.reads kb.alike kb.reads d b.shown
+-- a book agrees with a meter: its tally vouches for the first list, and its badge table accounts for the second. Nothing is asked
+-- of a book that has not begun
+abbrev pub Agrees : {A B R Q S : Type 0} → KeyKind A R → KeyKind B Q → TallyKind S A R → Meter A B S R Q → Option (Book A B) → Type 0
+Agrees ka kb t m None = Unit {0}
+Agrees ka kb t m (Some b) =
+    t.vouches m.tally b.readers × accounts_for ka kb m.table b.shown

@@ -1,21 +1,12 @@
-ghost use Rattle.std.specs.Prelude.{◌≡◌, ◌+◌, ◌/◌, min, List, [], length, IfOk, if◌then◌else◌, Some, Ok, Err, Option, MatchResult};
-ghost use Rattle.badgetable.specs.Rows.{badge_ends};
-ghost use Rattle.badgetable.specs.Shown.{Covers, badge_count, reader_count};
-ghost use Rattle.badgetable.specs.Tables.{Emptied, accounts_for, cell_count, row_count};
-ghost use Rattle.keys.specs.OfKey.{of_key};
-ghost use Rattle.keys.specs.Refusals.{number_of};
-ghost use Rattle.keys.specs.declared.refusal.Refusal.TheVariants.{RunFull};
-ghost use Rattle.meter.specs.Book.{Agrees, Book, after, entered, is_full};
-ghost use Rattle.listings.specs.Listings.{badge_listing, reader_listing};
-ghost use Rattle.listings.specs.Right.{Given, RightBadges, RightRange, RightReaders, measure_of};
-ghost use Rattle.meter.specs.Runs.{Answered, Right, RightVerdict, Taken, as_badges, as_done, as_range, as_readers, as_verdict, event_rule, verdict_rule};
-ghost use Rattle.tally.specs.Arrivals.{heavy_hitter};
+ghost use Rattle.std.specs.Prelude.{◌≡◌, IfOk, Ok, MatchResult};
+ghost use Rattle.badgetable.specs.Tables.{badge_ends_of};
+ghost use Rattle.keys.specs.Refusals.{told};
+ghost use Rattle.listings.specs.Listings.{badges_at, readers_at};
+ghost use Rattle.meter.specs.Runs.{Answered, Cleared, IsRight, KeepsBooks, Reply, RightByTable, RightByTally, Taken, event_rule, reply_to, verdict_rule};
 
-use crate::call::{Answer, Call, Rooms};
-use crate::event::event;
+use crate::call::{Answer, Call, Rooms, Told};
 use crate::query::{ask_all, judge};
-use crate::report::answer_report;
-use badgetable::table::BadgeTable;
+use crate::state::Meter;
 use keys::key::Key;
 use keys::share::Fraction;
 use listings::badge_listing::gather_badges;
@@ -23,143 +14,113 @@ use listings::reader_listing::gather_readers;
 use std::alloc::{AllocError, Global};
 use tally::Tally;
 
-// Answers the reader listing, rightly of every book that agrees.
-fn answer_readers<A: Key, B: Key, T: Tally<Key = A>>(
-    tally: &T,
-    share: Fraction,
-    room: usize,
-    heap: Global,
-) -> Result<Answer<A::Record, B::Record>, AllocError>
-    ensures told { IfOk result (λ a. as_readers a ≡ reader_listing A.Key T.Tally tally.now share.p share.q room) }
-    ensures right { IfOk result (λ a. (xs : List A) → T.Tally.vouches tally.now xs → Given (as_readers a) (λ rows. RightReaders A.Key share.p share.q (min (length xs) (T.Tally.reaches tally.now)) (T.Tally.wide tally.now) xs rows)) }
-{
-    ask_all(tally);
-    match gather_readers(tally, share, room, heap)? {
-        Ok(rows) => Ok(Answer::Readers(rows)),
-        Err(refusal) => Ok(Answer::Refused(refusal)),
-    }
-}
-
-// Answers the badge listing, likewise.
-fn answer_badges<A: Key, B: Key>(
-    table: &BadgeTable<A, B>,
-    readers: Fraction,
-    badges: Fraction,
-    room: usize,
-    heap: Global,
-) -> Result<Answer<A::Record, B::Record>, AllocError>
-    ensures told { IfOk result (λ a. as_badges a ≡ badge_listing table.now readers.p readers.q badges.p badges.q room) }
-    ensures right { IfOk result (λ a. (ps : List (A × B)) → accounts_for A.Key.alike A.Key.reads B.Key.alike B.Key.reads table.now ps → Given (as_badges a) (λ rows. RightBadges A.Key B.Key (measure_of A.Key B.Key table.now readers.p readers.q badges.p badges.q) ps rows)) }
-{
-    match gather_badges(table, readers, badges, room, heap)? {
-        Ok(rows) => Ok(Answer::Badges(rows)),
-        Err(refusal) => Ok(Answer::Refused(refusal)),
-    }
-}
-
-// Answers the range of a reader, likewise.
-fn answer_range<A: Key, B: Key, T: Tally<Key = A>>(
-    tally: &T,
-    reader: A,
-) -> Answer<A::Record, B::Record>
-    ensures told { as_range result ≡ Ok (T.Tally.low tally.now reader, T.Tally.high tally.now reader) }
-    ensures right { (xs : List A) → T.Tally.vouches tally.now xs → Given (as_range result) (λ r. RightRange A.Key (min (length xs) (T.Tally.reaches tally.now)) (T.Tally.wide tally.now) xs reader r.0 r.1) }
-{
-    ask_all(tally);
-    let (low, high) = tally.range(reader);
-    Answer::Range(low, high)
-}
-
-// Answers a verdict, likewise.
-fn answer_verdict<A: Key, B: Key, T: Tally<Key = A>>(
-    tally: &T,
-    reader: A,
-    share: Fraction,
-) -> Answer<A::Record, B::Record>
-    ensures told { as_verdict result ≡ verdict_rule A.Key T.Tally share.p share.q tally.now reader }
-    ensures right { (xs : List A) → T.Tally.vouches tally.now xs → Given (as_verdict result) (λ v. RightVerdict v (heavy_hitter A.Key.alike share.p share.q (min (length xs) (T.Tally.reaches tally.now)) reader xs)) }
-{
-    ask_all(tally);
-    match judge(tally, reader, share) {
-        Ok(verdict) => Answer::Judged(verdict),
-        Err(refusal) => Answer::Refused(refusal),
-    }
-}
-
-// Answers the range of a badge at a reader, likewise.
-fn answer_badge_range<A: Key, B: Key>(
-    table: &BadgeTable<A, B>,
-    reader: A,
-    badge: B,
-) -> Answer<A::Record, B::Record>
-    ensures told { as_range result ≡ Ok (badge_ends (of_key A.Key.alike A.Key.reads reader) (of_key B.Key.alike B.Key.reads badge) table.now.level table.now.rows.now table.now.cells.now) }
-    ensures right { (ps : List (A × B)) → accounts_for A.Key.alike A.Key.reads B.Key.alike B.Key.reads table.now ps → Given (as_range result) (λ r. Covers (badge_count A.Key.alike B.Key.alike reader badge ps) (length ps / (row_count table.now + 1) + reader_count A.Key.alike reader ps / (cell_count table.now + 1)) r.0 r.1) }
-{
-    let (low, high) = table.badge_range(reader, badge);
-    Answer::Range(low, high)
-}
-
-// Tells an event to both, or to neither, likewise.
-fn answer_event<A: Key, B: Key, T: Tally<Key = A>>(
-    tally: &mut T,
-    table: &mut BadgeTable<A, B>,
-    reader: A,
-    badge: B,
-) -> Answer<A::Record, B::Record>
-    ensures told { as_done result ≡ event_rule A.Key B.Key T.Tally tally.old table.old }
-    ensures after { Taken A.Key B.Key T.Tally (event_rule A.Key B.Key T.Tally tally.old table.old) reader badge tally.old table.old tally.new table.new }
-    ensures kept { (b : Option (Book A B)) → Agrees A.Key B.Key T.Tally tally.old table.old b → Agrees A.Key B.Key T.Tally tally.new table.new (entered reader badge b) }
-    ensures right { (b : Book A B) → Agrees A.Key B.Key T.Tally tally.old table.old (Some b) → as_done result ≡ (if is_full b then Err (number_of RunFull) else Ok tt) }
-{
-    match event(tally, table, reader, badge) {
-        Ok(_) => Answer::Done,
-        Err(refusal) => Answer::Refused(refusal),
-    }
-}
-
-// Forgets everything, in both.
-fn answer_clear<A: Key, B: Key, T: Tally<Key = A>>(
-    tally: &mut T,
-    table: &mut BadgeTable<A, B>,
-) -> Answer<A::Record, B::Record>
-    ensures told { as_done result ≡ Ok tt }
-    ensures after { (T.Tally.noted tally.new ≡ 0) × T.Tally.vouches tally.new [] × (T.Tally.planned tally.old → T.Tally.planned tally.new) × Emptied table.old table.new }
-    ensures kept { T.Tally.vouches tally.new [] × accounts_for A.Key.alike A.Key.reads B.Key.alike B.Key.reads table.new [] }
-{
-    tally.clear();
-    table.clear();
-    Answer::Done
-}
-
-// Answers one call.
-pub(crate) fn answer<A: Key, B: Key, T: Tally<Key = A>>(
-    tally: &mut T,
-    table: &mut BadgeTable<A, B>,
-    call: Call<A, B>,
-    rooms: Rooms,
-    heap: Global,
-) -> Result<Answer<A::Record, B::Record>, AllocError>
-    ensures told { IfOk result (λ a. Answered A.Key B.Key T.Tally rooms tally.old table.old call a tally.new table.new) }
-    ensures right { IfOk result (λ a. (b : Option (Book A B)) → Agrees A.Key B.Key T.Tally tally.old table.old b → Right A.Key B.Key T.Tally b tally.old table.old call a) }
-    ensures kept { MatchResult result (λ _. (b : Option (Book A B)) → Agrees A.Key B.Key T.Tally tally.old table.old b → Agrees A.Key B.Key T.Tally tally.new table.new (after b call)) (λ _. (tally.new ≡ tally.old) × (table.new ≡ table.old)) }
-{
-    match call {
-        Call::Event(reader, badge) => Ok(answer_event(tally, table, reader, badge)),
-        Call::Clear => Ok(answer_clear(tally, table)),
-        Call::ReaderRange(reader) => Ok(answer_range::<A, B, T>(tally, reader)),
-        Call::BadgeRange(reader, badge) => Ok(answer_badge_range(table, reader, badge)),
-        Call::Judge(reader, share) => Ok(answer_verdict::<A, B, T>(tally, reader, share)),
-        Call::ListReaders(share) => {
-            let answer = answer_readers::<A, B, T>(tally, share, rooms.readers, heap)?;
-            Ok(answer)
+// Each call has a function of its own, since what makes its answer right differs: the tally's promise,
+// or the table's.
+impl<'a, A: Key, B: Key, T: Tally<Key = A>> Meter<'a, A, B, T> {
+    // Answers the reader listing, rightly of every list that the tally vouches for.
+    fn answer_readers(
+        &self,
+        share: Fraction,
+        room: usize,
+        heap: Global,
+    ) -> Result<Told<A::Record, B::Record>, AllocError>
+        ensures told { IfOk result (λ a. reply_to a ≡ told Reply.readers (readers_at A.Key T.Tally self.now.tally share room)) }
+        ensures right { IfOk result (RightByTally A.Key B.Key T.Tally self.now (Call.ListReaders share)) }
+    {
+        ask_all(&self.tally);
+        // By cases, since `map` takes no function whose result names a type that its argument does not.
+        match gather_readers(&self.tally, share, room, heap)? {
+            Ok(rows) => Ok(Ok(Answer::Readers(rows))),
+            Err(refusal) => Ok(Err(refusal)),
         }
-        Call::ListBadges(readers, badges) => {
-            let answer = answer_badges(table, readers, badges, rooms.badges, heap)?;
-            Ok(answer)
-        }
-        Call::Report(readers, badges) => {
-            let answer = answer_report(tally, table, readers, badges, rooms, heap)?;
-            Ok(answer)
+    }
+
+    // Answers the badge listing, rightly of every list that the table accounts for.
+    fn answer_badges(
+        &self,
+        readers: Fraction,
+        badges: Fraction,
+        room: usize,
+        heap: Global,
+    ) -> Result<Told<A::Record, B::Record>, AllocError>
+        ensures told { IfOk result (λ a. reply_to a ≡ told Reply.badges (badges_at self.now.table readers badges room)) }
+        ensures right { IfOk result (RightByTable A.Key B.Key T.Tally self.now (Call.ListBadges readers badges)) }
+    {
+        let rows = gather_badges(&self.table, readers, badges, room, heap)?;
+        Ok(rows.map(Answer::Badges))
+    }
+
+    // Answers the range of a reader, by the tally.
+    fn answer_range(&self, reader: A) -> Told<A::Record, B::Record>
+        ensures told { reply_to result ≡ Ok (Reply.range (T.Tally.low self.now.tally reader, T.Tally.high self.now.tally reader)) }
+        ensures right { RightByTally A.Key B.Key T.Tally self.now (Call.ReaderRange reader) result }
+    {
+        ask_all(&self.tally);
+        Ok(Answer::Range(self.tally.range(reader)))
+    }
+
+    // Answers a verdict, by the tally.
+    fn answer_verdict(&self, reader: A, share: Fraction) -> Told<A::Record, B::Record>
+        ensures told { reply_to result ≡ told Reply.judged (verdict_rule T.Tally share.p share.q self.now.tally reader) }
+        ensures right { RightByTally A.Key B.Key T.Tally self.now (Call.Judge reader share) result }
+    {
+        ask_all(&self.tally);
+        Ok(Answer::Judged(judge(&self.tally, reader, share)?))
+    }
+
+    // Answers the range of a badge at a reader, by the table.
+    fn answer_badge_range(&self, reader: A, badge: B) -> Told<A::Record, B::Record>
+        ensures told { reply_to result ≡ Ok (Reply.range (badge_ends_of A.Key B.Key self.now.table reader badge)) }
+        ensures right { RightByTable A.Key B.Key T.Tally self.now (Call.BadgeRange reader badge) result }
+    {
+        Ok(Answer::Range(self.table.badge_range(reader, badge)))
+    }
+
+    // Tells an event to both, or to neither, rightly of every book that agrees.
+    fn answer_event(&mut self, reader: A, badge: B) -> Told<A::Record, B::Record>
+        ensures told { reply_to result ≡ told (λ _. Reply.done) (event_rule A.Key B.Key T.Tally self.old) }
+        ensures after { Taken A.Key B.Key T.Tally (event_rule A.Key B.Key T.Tally self.old) reader badge self.old self.new }
+        ensures kept { KeepsBooks A.Key B.Key T.Tally self.old (Call.Event reader badge) self.new }
+        ensures right { IsRight A.Key B.Key T.Tally self.old (Call.Event reader badge) result }
+    {
+        self.event(reader, badge)?;
+        Ok(Answer::Done)
+    }
+
+    // Forgets everything, in both, likewise.
+    fn answer_clear(&mut self) -> Told<A::Record, B::Record>
+        ensures told { reply_to result ≡ Ok Reply.done }
+        ensures after { Cleared A.Key B.Key T.Tally self.old self.new }
+        ensures right { IsRight A.Key B.Key T.Tally self.old Call.Clear result }
+        ensures kept { KeepsBooks A.Key B.Key T.Tally self.old Call.Clear self.new }
+    {
+        self.tally.clear();
+        self.table.clear();
+        Ok(Answer::Done)
+    }
+
+    // Answers one call.
+    pub(crate) fn answer(
+        &mut self,
+        call: Call<A, B>,
+        rooms: Rooms,
+        heap: Global,
+    ) -> Result<Told<A::Record, B::Record>, AllocError>
+        ensures told { IfOk result (λ a. Answered A.Key B.Key T.Tally rooms self.old call a self.new) }
+        ensures right { IfOk result (IsRight A.Key B.Key T.Tally self.old call) }
+        ensures kept { MatchResult result (λ _. KeepsBooks A.Key B.Key T.Tally self.old call self.new) (λ _. self.new ≡ self.old) }
+    {
+        match call {
+            Call::Event(reader, badge) => Ok(self.answer_event(reader, badge)),
+            Call::Clear => Ok(self.answer_clear()),
+            Call::ReaderRange(reader) => Ok(self.answer_range(reader)),
+            Call::BadgeRange(reader, badge) => Ok(self.answer_badge_range(reader, badge)),
+            Call::Judge(reader, share) => Ok(self.answer_verdict(reader, share)),
+            Call::ListReaders(share) => self.answer_readers(share, rooms.readers, heap),
+            Call::ListBadges(readers, badges) => {
+                self.answer_badges(readers, badges, rooms.badges, heap)
+            }
+            Call::Report(readers, badges) => self.answer_report(readers, badges, rooms, heap),
         }
     }
 }

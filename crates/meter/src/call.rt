@@ -4,7 +4,7 @@ use keys::share::Fraction;
 use listings::row::{BadgeRow, ReaderRow};
 
 // What the meter is asked to do.
-#[derive(Clone, Copy)]
+#[derive(Clone, Copy, Debug, PartialEq, Eq)]
 pub enum Call<A, B> {
     // A badge is shown to a reader.
     Event(A, B),
@@ -29,13 +29,18 @@ pub enum Call<A, B> {
 pub enum Answer<R, S> {
     // An event was taken, or everything was forgotten.
     Done,
-    Refused(Refusal),
-    Range(u32, u32),
+    // A low and a high end, as tallies and tables tell them. Kept as a pair: the interface has it so, and
+    // a type of its own would be taken apart by all who read it.
+    Range((u32, u32)),
     Judged(Verdict),
     Readers(Vec<ReaderRow<R>>),
     Badges(Vec<BadgeRow<R, S>>),
     Reported(Report<R, S>),
 }
+
+// What a call is told: its answer, or why it was turned away. Memory that runs out is no refusal: it
+// ends a run, and stands apart.
+pub type Told<R, S> = Result<Answer<R, S>, Refusal>;
 
 // A report: the tally's n and T, and both listings.
 #[derive(Drop)]
@@ -46,8 +51,9 @@ pub struct Report<R, S> {
     pub badges: Vec<BadgeRow<R, S>>,
 }
 
-// How many rows a listing may have: the room of a page for readers, and of one for badges.
-#[derive(Clone, Copy)]
+// How many rows a listing may have: the room of a page for readers, and of one for badges. The heap is
+// handed on beside it: it is a handle, and no limit.
+#[derive(Clone, Copy, Debug, PartialEq, Eq)]
 pub struct Rooms {
     pub readers: usize,
     pub badges: usize,

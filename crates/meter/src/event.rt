@@ -1,46 +1,35 @@
-ghost use Rattle.std.specs.Prelude.{◌≡◌, ◌||◌, if◌then◌else◌, Some, Ok, Err, Option, ◌==◌};
-ghost use Rattle.keys.specs.Refusals.{number_of, told};
+ghost use Rattle.std.specs.Prelude.{◌≡◌, ◌||◌, if◌then◌else◌, Some, Ok, Err, ◌==◌};
 ghost use Rattle.keys.specs.declared.refusal.Refusal.TheVariants.{RunFull};
-ghost use Rattle.meter.specs.Book.{Agrees, Book, entered, is_full};
-ghost use Rattle.meter.specs.Runs.{Taken, are_full, event_rule};
-ghost use Rattle.tally.specs.Owed.{most_arrivals};
+ghost use Rattle.meter.specs.Book.{Agrees, Book, is_full};
+ghost use Rattle.meter.specs.Runs.{KeepsBooks, Taken, are_full, event_rule};
 
-use badgetable::table::BadgeTable;
+use crate::call::Call;
+use crate::state::Meter;
 use keys::key::Key;
 use keys::refusal::Refusal;
 use tally::{MOST_ARRIVALS, Tally};
 
-// Whether one of two numbers of arrivals is the most that can be counted.
-fn is_most(n: u32, m: u32) -> bool
-    ensures { result ≡ (n == most_arrivals || m == most_arrivals) }
-{
-    n == MOST_ARRIVALS || m == MOST_ARRIVALS
-}
-
-// Whether one of the two can count no further arrival; the book says the same.
-fn is_full<A: Key, B: Key, T: Tally<Key = A>>(tally: &T, table: &BadgeTable<A, B>) -> bool
-    ensures value { result ≡ are_full T.Tally tally.now table.now }
-    ensures book { (b : Book A B) → Agrees A.Key B.Key T.Tally tally.now table.now (Some b) → result ≡ is_full b }
-{
-    is_most(tally.arrivals(), table.arrivals())
-}
-
-// Tells an event to both, or to neither.
-pub(crate) fn event<A: Key, B: Key, T: Tally<Key = A>>(
-    tally: &mut T,
-    table: &mut BadgeTable<A, B>,
-    reader: A,
-    badge: B,
-) -> Result<(), Refusal>
-    ensures answer { told (λ u. u) result ≡ event_rule A.Key B.Key T.Tally tally.old table.old }
-    ensures after { Taken A.Key B.Key T.Tally (event_rule A.Key B.Key T.Tally tally.old table.old) reader badge tally.old table.old tally.new table.new }
-    ensures kept { (b : Option (Book A B)) → Agrees A.Key B.Key T.Tally tally.old table.old b → Agrees A.Key B.Key T.Tally tally.new table.new (entered reader badge b) }
-    ensures book { (b : Book A B) → Agrees A.Key B.Key T.Tally tally.old table.old (Some b) → told (λ u. u) result ≡ (if is_full b then Err (number_of RunFull) else Ok tt) }
-{
-    if is_full(tally, table) {
-        return Err(Refusal::RunFull);
+impl<'a, A: Key, B: Key, T: Tally<Key = A>> Meter<'a, A, B, T> {
+    // Whether one of the two can count no further arrival; the book says the same.
+    fn is_full(&self) -> bool
+        ensures value { result ≡ are_full T.Tally self.now }
+        ensures book { (b : Book A B) → Agrees A.Key B.Key T.Tally self.now (Some b) → result ≡ is_full b }
+    {
+        self.tally.arrivals() == MOST_ARRIVALS || self.table.arrivals() == MOST_ARRIVALS
     }
-    tally.note(reader)?;
-    table.note(reader, badge)?;
-    Ok(())
+
+    // Tells an event to both, or to neither.
+    pub(crate) fn event(&mut self, reader: A, badge: B) -> Result<(), Refusal>
+        ensures answer { result ≡ event_rule A.Key B.Key T.Tally self.old }
+        ensures after { Taken A.Key B.Key T.Tally (event_rule A.Key B.Key T.Tally self.old) reader badge self.old self.new }
+        ensures kept { KeepsBooks A.Key B.Key T.Tally self.old (Call.Event reader badge) self.new }
+        ensures book { (b : Book A B) → Agrees A.Key B.Key T.Tally self.old (Some b) → result ≡ (if is_full b then Err RunFull else Ok tt) }
+    {
+        if self.is_full() {
+            return Err(Refusal::RunFull);
+        }
+        self.tally.note(reader)?;
+        self.table.note(reader, badge)?;
+        Ok(())
+    }
 }

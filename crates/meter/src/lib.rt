@@ -1,5 +1,5 @@
-// The meter: one tally of readers and one table of badges by reader, side by side. Each call is given
-// both. Of a tally it sees the interface's promise alone.
+// The meter: one tally of readers and one table of badges by reader, side by side. Of a tally it sees
+// the interface's promise alone.
 #![tactic(auto)]
 
 mod answer;
@@ -8,4 +8,5 @@ mod event;
 mod query;
 mod report;
 mod run;
+mod state;
 pub mod verdict;

@@ -1,13 +1,11 @@
 ghost use Rattle.std.specs.Prelude.{◌≡◌, List};
-ghost use Rattle.keys.specs.Refusals.{told};
 ghost use Rattle.listings.specs.Right.{Promise};
 ghost use Rattle.meter.specs.Runs.{verdict_rule};
 
 use crate::verdict::Verdict;
 use keys::key::Key;
 use keys::refusal::Refusal;
-use keys::share::Fraction;
-use listings::latest::within;
+use keys::share::{Fraction, Share};
 use tally::Tally;
 
 // Asks a tally for all that binds its answers. The numbers are not used, only what comes with them:
@@ -26,8 +24,8 @@ pub(crate) fn judge<A: Key, T: Tally<Key = A>>(
     reader: A,
     share: Fraction,
 ) -> Result<Verdict, Refusal>
-    ensures { told (λ v. v) result ≡ verdict_rule A.Key T.Tally share.p share.q tally.now reader }
+    ensures { result ≡ verdict_rule T.Tally share.p share.q tally.now reader }
 {
-    let share = share.share()?.fraction();
-    Ok(Verdict::on(share, within(tally), tally.range(reader)))
+    Share::try_from(share)?;
+    Ok(Verdict::on(share, tally.within(), tally.range(reader)))
 }

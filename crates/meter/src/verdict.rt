@@ -1,10 +1,11 @@
-ghost use Rattle.std.specs.Prelude.{◌≡◌};
-ghost use Rattle.meter.specs.Verdicts.{verdict_of};
+ghost use Rattle.std.specs.Prelude.{◌≡◌, Some};
+ghost use Rattle.meter.specs.Verdicts.{verdict_of, word_of};
 
 use keys::share::Fraction;
+use std::fmt;
 
 // Whether a reader is above a share, as far as its range tells.
-#[derive(Clone, Copy)]
+#[derive(Clone, Copy, Debug, PartialEq, Eq)]
 pub enum Verdict {
     // It is above.
     Over,
@@ -26,5 +27,18 @@ impl Verdict {
         } else {
             Verdict::Unsure
         }
+    }
+}
+
+// A verdict in small letters.
+impl fmt::Display for Verdict {
+    ghost output = { λ v. Some (word_of v) };
+
+    fn fmt<W: fmt::Write>(&self, f: &mut fmt::Formatter<W>) -> fmt::Result {
+        f.write_str(match self {
+            Verdict::Over => "over",
+            Verdict::Within => "within",
+            Verdict::Unsure => "unsure",
+        })
     }
 }

@@ -4,3 +4,5 @@
 
 pub mod list;
 pub mod source;
+#[cfg(test)]
+mod tests;

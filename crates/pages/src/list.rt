@@ -1,67 +1,40 @@
-ghost use Rattle.std.specs.Prelude.{◌≡◌, ◌+◌, ◌≤◌, ◌++◌, length, IfOk, OnOk};
-ghost use Rattle.keys.specs.Refusals.{told};
-ghost use Rattle.pages.specs.Listed.{counted, fitted, listed, over, page_after, put_at};
-ghost use Rattle.std.specs.Option.{option_to_list};
+ghost use Rattle.std.specs.Prelude.{◌≡◌, ◌≤◌, length, IfOk};
+ghost use Rattle.pages.specs.Listed.{counted, fitted, over, page_after};
+ghost use Rattle.pages.specs.Sources.{rows_of};
 
 use crate::source::Source;
 use keys::refusal::Refusal;
 use std::alloc::{AllocError, Global};
 
-fn one<R: Copy>(row: Option<R>) -> usize
-    ensures { result ≡ length (option_to_list row) }
+// How many rows there are.
+pub fn count<S: Source>(source: &S) -> usize
+    ensures { result ≡ length (rows_of S.Source source.now) }
 {
-    match row {
-        Some(_) => 1,
-        None => 0,
-    }
-}
-
-fn put<R: Copy>(page: &mut [R], n: usize, row: Option<R>) -> usize
-    requires { n + length (option_to_list row) ≤ length page.old }
-    ensures count { result ≡ n + length (option_to_list row) }
-    ensures page { page.new ≡ put_at page.old n row }
-{
-    match row {
-        Some(r) => {
-            page[n] = r;
-            n + 1
-        }
-        None => n,
-    }
-}
-
-fn count_rows<S: Source>(source: &S) -> usize
-    ensures { result ≡ length (listed (S.Source.row source.now) (S.Source.size source.now)) }
-{
-    let mut n: usize = 0;
-    for i in 0..source.places() {
-        n += one(source.row_at(i));
-    }
-    n
+    (0..source.places())
+        .filter_map(|place| source.row_at(place))
+        .count()
 }
 
 fn write<S: Source>(source: &S, page: &mut [S::Row])
-    requires { length (listed (S.Source.row source.now) (S.Source.size source.now)) ≤ length page.old }
-    ensures { page.new ≡ over (listed (S.Source.row source.now) (S.Source.size source.now)) page.old }
+    requires { length (rows_of S.Source source.now) ≤ length page.old }
+    ensures { page.new ≡ over (rows_of S.Source source.now) page.old }
 {
-    let mut n: usize = 0;
-    for i in 0..source.places() {
-        n = put(page, n, source.row_at(i));
+    // Kept with a count of lines: tried as `enumerate` of a chain, of which the proof did not close.
+    let mut line = 0;
+    for place in 0..source.places() {
+        if let Some(row) = source.row_at(place) {
+            page[line] = row;
+            line += 1;
+        }
     }
 }
 
-// How many rows there are.
-pub fn count<S: Source>(source: &S) -> usize
-    ensures { result ≡ length (listed (S.Source.row source.now) (S.Source.size source.now)) }
-{
-    count_rows(source)
-}
-
 // Writes all rows over the first places of a page, and tells how many. Refused as page short, with
-// the page as it was, where there are more rows than the page holds.
+// the page as it was, where there are more rows than the page holds. The page is the caller's, since the
+// core has no heap.
 pub fn list<S: Source>(source: &S, page: &mut [S::Row]) -> Result<usize, Refusal>
-    ensures answer { told (λ n. n) result ≡ counted (fitted (listed (S.Source.row source.now) (S.Source.size source.now)) (length page.old)) }
-    ensures page { page.new ≡ page_after (listed (S.Source.row source.now) (S.Source.size source.now)) page.old }
+    ensures answer { result ≡ counted (fitted (rows_of S.Source source.now) (length page.old)) }
+    ensures page { page.new ≡ page_after (rows_of S.Source source.now) page.old }
 {
     let n = count(source);
     if n > page.len() {
@@ -71,22 +44,11 @@ pub fn list<S: Source>(source: &S, page: &mut [S::Row]) -> Result<usize, Refusal
     Ok(n)
 }
 
-fn push_row<R: Copy>(rows: &mut Vec<R>, row: Option<R>) -> Result<(), AllocError>
-    ensures { OnOk result (rows.new.items ≡ rows.old.items ++ option_to_list row) }
-{
-    if let Some(r) = row {
-        rows.push(r)?;
-    }
-    Ok(())
-}
-
 // Gathers all rows in memory of their own.
 pub fn gather<S: Source>(source: &S, heap: Global) -> Result<Vec<S::Row>, AllocError>
-    ensures { IfOk result (λ v. v.items ≡ listed (S.Source.row source.now) (S.Source.size source.now)) }
+    ensures { IfOk result (λ v. v.items ≡ rows_of S.Source source.now) }
 {
-    let mut rows = Vec::new(heap);
-    for i in 0..source.places() {
-        push_row(&mut rows, source.row_at(i))?;
-    }
-    Ok(rows)
+    (0..source.places())
+        .filter_map(|place| source.row_at(place))
+        .collect(heap)
 }

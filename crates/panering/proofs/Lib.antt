@@ -1,4 +1,3 @@
-mod Areas
 mod Reached
 mod Slots
 mod Stretches

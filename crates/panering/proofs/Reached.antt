@@ -1,21 +1,20 @@
 -- what a ring that vouches for a list owes: ranges, width and ceiling
-use Rattle.std.proofs.Common.{◌≡◌, ℕ, zero, suc, ◌+◌, ◌*◌, ◌/◌, ◌<◌, ◌≤◌, min, Bool, false, cond, eqb, ◌⊎◌, List, ◌++◌, length, Option, sym, refl, ap, ◌∙◌, inl, inr, ⊎_elim, mul-le-mul_right, suc-mul, mul_comm, add-mul, add-one, arith}
+use Rattle.std.proofs.Common.{◌≡◌, ℕ, zero, suc, ◌+◌, ◌*◌, ◌/◌, ◌<◌, ◌≤◌, min, Bool, false, ◌⊎◌, List, ◌++◌, length, Option, sym, refl, ap, ◌∙◌, inl, inr, ⊎_elim, mul-le-mul_right, suc-mul, mul_comm, add-one, arith}
 use Rattle.std.proofs.lemmas.Nat.{div-mul-add, le-div, mod-mul-add, mul-le}
 use Rattle.std.proofs.lemmas.List.{append_assoc, length-append}
-use Rattle.std.proofs.lemmas.Bool.{cases_lt, cond_both, eq-eqb, le-leb, lt-ltb}
+use Rattle.std.proofs.lemmas.Bool.{cases_lt, eq-eqb, le-leb, lt-ltb}
 use Rattle.cells.proofs.Bounds.{absent_from, high_covered, narrow}
 use Rattle.cells.proofs.Kept.{level_below}
 use Rattle.cells.proofs.Ranges.{ends_absent}
-use Rattle.cells.specs.Cells.{key_at}
-use Rattle.cells.specs.declared.cell.Cell.{Cell}
+use Rattle.cells.specs.Cells.{Cell, key_at}
 use Rattle.keys.specs.OfKey.{of_key}
 use Rattle.tally.proofs.Counts.{held_nowhere}
 use Rattle.tally.specs.Arrivals.{occurs, true_count}
 use Rattle.tally.specs.Owed.{Contains, held_below, holds}
-use Rattle.panering.specs.Panes.{high_back, inside, kept, level_back, low_back, pane_back, ring_high, ring_key, ring_low, ring_reach, ring_spots, ring_top, ring_width, slot_back, sum_below}
+use Rattle.panering.specs.Panes.{high_back, inside, kept, level_back, low_back, pane_back, ring_high, ring_key, ring_low, ring_reach, ring_spots, ring_top, ring_width, slot_back, sum_below, tail}
 use Rattle.panering.specs.Ringed.{Ringed, size_back, stretch}
 use Rattle.panering.specs.declared.shape.Shape.{Shape}
-use Rattle.panering.proofs.Areas.{length_pane, slot_room}
+use Rattle.parts.proofs.Areas.{length_part, slot_room}
 use Rattle.panering.proofs.Slots.{slot_below}
 use Rattle.panering.proofs.Stretches.{end_inside, latest_inside, length_stretch, occurs_stretch, sum_both, sum_grows, sum_le, sum_same, sum_times}
 
@@ -30,7 +29,6 @@ sizes_below s zero some l f = absurd (omega arith)
 sizes_below s (suc m) some l f =
     let r = sum_sizes s m in
     let a : (m + 1) * s.length ≤ s.panes * s.length = mul-le-mul_right s.length (omega arith) in
-    let b = add-mul m 1 s.length in
     omega arith
 
 module _ {K R X : Type 0} (alike : K → K → Bool) (reads : R → Option K) (s : Shape) (levels : List ℕ) (cs : List (Cell R X)) (n : ℕ) (xs : List K) (v : Ringed alike reads s levels cs n xs) where
@@ -49,7 +47,6 @@ module _ {K R X : Type 0} (alike : K → K → Bool) (reads : R → Option K) (s
   -- the tail stands behind the panes within reach, where there is one
   split : ((s.complete < s.panes) × (inside s ≡ kept s)) ⊎ ((s.complete ≡ s.panes) × (inside s ≡ s.panes))
   split =
-      let c = v.sized.counted in
       ⊎_elim
       (λ (l : s.complete < s.panes). inl (l, omega arith))
       (λ (l : s.panes ≤ s.complete). inr (omega arith, omega arith))
@@ -73,24 +70,23 @@ module _ {K R X : Type 0} (alike : K → K → Bool) (reads : R → Option K) (s
 
   inside_short : length (stretch seg (inside s)) ≤ min n (ring_reach s)
   inside_short =
-      let z = v.sized in
       let e = seg_sizes (inside s) inside_few in
-      let b = sizes_below s (inside s) (omega arith) (omega arith) z.unfilled in
+      let b = sizes_below s (inside s) (omega arith) (omega arith) v.sized.unfilled in
       let f = ending in
       let a = ap length f.1 ∙ length-append f.0 (stretch seg (inside s)) in
-      let l = v.long in
       omega arith
+
+  kept_sizes : sum_below (size_back s) (kept s) ≡ s.filled + s.complete * s.length
+  kept_sizes = ap (sum_below (size_back s)) (add-one s.complete) ∙ sum_sizes s s.complete
 
   kept_long : min n (ring_reach s) ≤ length (stretch seg (kept s))
   kept_long =
       let e = seg_sizes (kept s) (omega arith) in
-      let l = v.long in
       let a = ap length v.joined ∙ length-append v.older (stretch seg (kept s)) in
       ⊎_elim
       (λ (p : (s.complete < s.panes) × (inside s ≡ kept s)). let o = ap length (v.whole p.0) in omega arith)
       (λ (p : (s.complete ≡ s.panes) × (inside s ≡ s.panes)).
-      let z = sum_sizes s s.complete in
-      let q : sum_below (size_back s) (kept s) ≡ sum_below (size_back s) (suc s.complete) = ap (sum_below (size_back s)) (add-one s.complete) in
+      let z = kept_sizes in
       let w : ring_reach s ≡ s.complete * s.length = ap (λ (c : ℕ). c * s.length) (sym p.0) in
       omega arith)
       split
@@ -98,10 +94,8 @@ module _ {K R X : Type 0} (alike : K → K → Bool) (reads : R → Option K) (s
   -- all kept panes together are small
   kept_small : sum_below (size_back s) (kept s) ≤ 5_000_000
   kept_small =
-      let z = v.sized in
-      let a = sum_sizes s s.complete in
-      let q : sum_below (size_back s) (kept s) ≡ sum_below (size_back s) (suc s.complete) = ap (sum_below (size_back s)) (add-one s.complete) in
-      let b = mul-le s.complete s.length 64 65535 (omega arith) z.short in
+      let a = kept_sizes in
+      let b = mul-le s.complete s.length 64 65535 (omega arith) v.sized.short in
       omega arith
 
   highs_small : (k : K) (m : ℕ) → m ≤ kept s → sum_below (high k) m ≤ sum_below (size_back s) m
@@ -145,11 +139,8 @@ module _ {K R X : Type 0} (alike : K → K → Bool) (reads : R → Option K) (s
   high_whole : (k : K) → ring_high (of_key alike reads k) s levels cs ≡ sum_below (high k) (kept s)
   high_whole k = let b = highs_small k (kept s) (omega arith) in let e = kept_small in omega arith
 
-  pub ring_contains : (k : K) → Contains alike (min (min n 100_000_000) (ring_reach s)) k xs (ring_low (of_key alike reads k) s levels cs) (ring_high (of_key alike reads k) s levels cs)
+  pub ring_contains : (k : K) → Contains alike (min n (ring_reach s)) k xs (ring_low (of_key alike reads k) s levels cs) (ring_high (of_key alike reads k) s levels cs)
   ring_contains k =
-      let f = v.few in
-      let m : min (min n 100_000_000) (ring_reach s) ≡ min n (ring_reach s) = omega arith in
-      let t = ap (λ (t : ℕ). true_count alike t k xs) m in
       let a = low_true k in
       let b = high_true k in
       let d = low_whole k in
@@ -162,16 +153,10 @@ module _ {K R X : Type 0} (alike : K → K → Bool) (reads : R → Option K) (s
   size_past zero l = absurd (omega arith)
   size_past (suc j) l = refl
 
-  -- the part of the width for a tail
-  abbrev tail_part : ℕ
-  tail_part = cond (eqb s.complete s.panes) s.length 0
+  tail_small : tail s ≤ s.length
+  tail_small = grind arith
 
-  tail_small : tail_part ≤ 65535
-  tail_small =
-      let z = v.sized in
-      cond_both (eqb s.complete s.panes) s.length 0 (λ x. x ≤ 65535) (λ _. z.short) (λ _. omega arith)
-
-  width_whole : ring_width s levels ≡ sum_below level (inside s) + tail_part
+  width_whole : ring_width s levels ≡ sum_below level (inside s) + tail s
   width_whole =
       let a = levels_small (inside s) inside_few in
       let b = sizes_grow (inside s) inside_few in
@@ -187,12 +172,11 @@ module _ {K R X : Type 0} (alike : K → K → Bool) (reads : R → Option K) (s
       omega arith
 
   -- and what a tail adds
-  tail_narrow : (k : K) → sum_below (high k) (kept s) ≤ sum_below (high k) (inside s) + tail_part
+  tail_narrow : (k : K) → sum_below (high k) (kept s) ≤ sum_below (high k) (inside s) + tail s
   tail_narrow k =
       ⊎_elim
       (λ (a : (s.complete < s.panes) × (inside s ≡ kept s)). let e = ap (sum_below (high k)) a.1 in omega arith)
       (λ (b : (s.complete ≡ s.panes) × (inside s ≡ s.panes)).
-      let z = v.sized in
       let e : kept s ≡ suc (inside s) = omega (arith, b.0, b.1) in
       let q = ap (sum_below (high k)) e in
       let h = high_covered alike reads (of_key alike reads k) (pane_back s cs (inside s)) (level (inside s)) (size_back s (inside s)) (seg (inside s)) (v.each (inside s) (omega (arith, b.0, b.1))) in
@@ -218,33 +202,28 @@ module _ {K R X : Type 0} (alike : K → K → Bool) (reads : R → Option K) (s
       omega arith
 
   pane_room : (j : ℕ) → j ≤ s.complete → slot_back s j * s.k + s.k ≤ length cs
-  pane_room j h =
-      let z = v.sized in
-      slot_room s.k (slot_back s j) s.panes (length cs) (slot_below s j z.turned (omega arith)) z.room
+  pane_room j h = slot_room s.k (slot_back s j) s.panes (length cs) (slot_below s j v.sized.turned (omega arith)) v.sized.room
 
   -- the width is at most b + W/(k + 1)
   pub ring_width_share : ring_width s levels ≤ s.length + ring_reach s / (s.k + 1)
   ring_width_share =
-      let z = v.sized in
       let a = sum_le (λ j. (s.k + 1) * level j) (size_back s) (inside s) (λ j h.
       let c = (v.each j (omega (arith, inside_few))).covered in
-      let n = length_pane s.k (slot_back s j) cs (pane_room j (omega (arith, inside_few))) in
+      let n = length_part s.k (slot_back s j) cs (pane_room j (omega (arith, inside_few))) in
       let e = ap (λ (m : ℕ). (m + 1) * level j) n in
       omega arith) in
       let b = sum_times (s.k + 1) level (inside s) in
-      let d = sizes_below s (inside s) (omega arith) (omega arith) z.unfilled in
+      let d = sizes_below s (inside s) (omega arith) (omega arith) v.sized.unfilled in
       let m = mul_comm (s.k + 1) (sum_below level (inside s)) in
       let e = le-div (sum_below level (inside s)) (ring_reach s) (s.k + 1) (omega arith) (omega arith) in
-      let t : tail_part ≤ s.length = cond_both (eqb s.complete s.panes) s.length 0 (λ x. x ≤ s.length) (λ _. omega arith) (λ _. omega arith) in
+      let t = tail_small in
       let w = width_whole in
       omega arith
 
   -- the key at a place of a kept pane
   place_read : (j c : ℕ) → j ≤ s.complete → c < s.k → (j * s.k + c < ring_spots s) × (ring_key reads s cs (j * s.k + c) ≡ key_at reads (pane_back s cs j) c)
   place_read j c h l =
-      let z = v.sized in
       let a : (j + 1) * s.k ≤ (s.panes + 1) * s.k = mul-le-mul_right s.k (omega arith) in
-      let b = add-mul j 1 s.k in
       let i : j * s.k + c < ring_spots s = omega arith in
       let q = div-mul-add j s.k c l in
       let r = mod-mul-add j s.k c l in
@@ -253,13 +232,13 @@ module _ {K R X : Type 0} (alike : K → K → Bool) (reads : R → Option K) (s
   missed_high : (k : K) → held_below alike (ring_key reads s cs) k (ring_spots s) ≡ false → (j : ℕ) → j ≤ s.complete → high k j ≡ level j
   missed_high k out j h =
       let none = held_nowhere alike (ring_key reads s cs) k (ring_spots s) out in
-      let n = length_pane s.k (slot_back s j) cs (pane_room j h) in
+      let n = length_part s.k (slot_back s j) cs (pane_room j h) in
       let gone = absent_from alike reads k (pane_back s cs j) (λ c l.
       let p = place_read j c h (omega arith) in
       sym (ap (holds alike k) p.1) ∙ none (j * s.k + c) p.0) in
       ap (λ (e : ℕ × ℕ). e.1) (ends_absent (of_key alike reads k) (level j) (pane_back s cs j) gone)
 
-  pub ring_missed : (k : K) → held_below alike (ring_key reads s cs) k (ring_spots s) ≡ false → (ring_high (of_key alike reads k) s levels cs ≤ ring_top s levels) × (true_count alike (min (min n 100_000_000) (ring_reach s)) k xs ≤ ring_top s levels)
+  pub ring_missed : (k : K) → held_below alike (ring_key reads s cs) k (ring_spots s) ≡ false → (ring_high (of_key alike reads k) s levels cs ≤ ring_top s levels) × (true_count alike (min n (ring_reach s)) k xs ≤ ring_top s levels)
   ring_missed k out =
       let e = sum_same (high k) level (kept s) (λ j h. missed_high k out j (omega arith)) in
       let a = (ring_contains k).upto in

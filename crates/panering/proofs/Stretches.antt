@@ -1,9 +1,9 @@
 -- sums over panes, and the stretches that they count
-use Rattle.std.proofs.Common.{◌≡◌, ℕ, zero, suc, ◌+◌, ◌-◌, ◌*◌, ◌<◌, ◌≤◌, Bool, cond, List, [], ◌∷◌, ◌++◌, length, drop, sym, refl, ap, ◌∙◌, ⊎_elim, mul-zero, mul-add, add-one, arith}
-use Rattle.std.proofs.lemmas.List.{append_assoc, append-nil, drop-append-le, drop_at, drop-drop, length-append}
+use Rattle.std.proofs.Common.{◌≡◌, ℕ, zero, suc, ◌+◌, ◌-◌, ◌*◌, ◌<◌, ◌≤◌, Bool, cond, List, [], ◌∷◌, ◌++◌, length, drop, sym, refl, ap, ◌∙◌, ⊎_elim, mul-zero, mul-add, arith}
+use Rattle.std.proofs.lemmas.List.{append_assoc, append-nil, drop-append-le, length-append}
 use Rattle.std.proofs.lemmas.List.Sums.{sum_by-append, sum_by-take-drop}
+use Rattle.std.proofs.Math.Seq.{drop-append-add}
 use Rattle.std.proofs.lemmas.Bool.{cases_lt}
-use Rattle.cells.specs.Cells.{capped}
 use Rattle.tally.specs.Arrivals.{occurs, true_count}
 use Rattle.panering.specs.Panes.{sum_below}
 use Rattle.panering.specs.Ringed.{stretch}
@@ -17,23 +17,12 @@ sum_same f g zero h = refl
 sum_same f g (suc m) h = let r = sum_same f g m (λ j l. h j (omega arith)) in let e = h m (omega arith) in omega arith
 
 pub sum_grows : (f : ℕ → ℕ) (m n : ℕ) → m ≤ n → sum_below f m ≤ sum_below f n
-sum_grows f m zero l = let z : m ≡ 0 = omega arith in rw z (omega arith)
+sum_grows f m zero l = grind arith
 sum_grows f m (suc n) l =
     ⊎_elim
     (λ (h : m < suc n). let r = sum_grows f m n (omega arith) in omega arith)
     (λ (h : suc n ≤ m). let z : m ≡ suc n = omega arith in rw z (omega arith))
     (cases_lt m (suc n))
-
--- a capped sum goes on
-pub capped_more : (f : ℕ → ℕ) (j a x : ℕ) → a ≡ capped (sum_below f j) → x ≡ f j → capped (a + x) ≡ capped (sum_below f (j + 1))
-capped_more f j a x e d =
-    let m : sum_below f (j + 1) ≡ sum_below f j + f j = ap (sum_below f) (add-one j) in omega arith
-
-pub both_more : (f g : ℕ → ℕ) (j : ℕ) (a x : ℕ × ℕ) → a ≡ (capped (sum_below f j), capped (sum_below g j)) → x ≡ (f j, g j) → ◌≡◌ {A = ℕ × ℕ} (capped (a.0 + x.0), capped (a.1 + x.1)) (capped (sum_below f (j + 1)), capped (sum_below g (j + 1)))
-both_more f g j a x e d =
-    let l = capped_more f j a.0 x.0 (ap (λ (p : ℕ × ℕ). p.0) e) (ap (λ (p : ℕ × ℕ). p.0) d) in
-    let h = capped_more g j a.1 x.1 (ap (λ (p : ℕ × ℕ). p.1) e) (ap (λ (p : ℕ × ℕ). p.1) d) in
-    rw (l, h) refl
 
 pub sum_both : (f g : ℕ → ℕ) (m : ℕ) → sum_below (λ j. f j + g j) m ≡ sum_below f m + sum_below g m
 sum_both f g zero = refl
@@ -42,10 +31,6 @@ sum_both f g (suc m) = let r = sum_both f g m in omega arith
 pub sum_times : (c : ℕ) (f : ℕ → ℕ) (m : ℕ) → sum_below (λ j. c * f j) m ≡ c * sum_below f m
 sum_times c f zero = sym (mul-zero c)
 sum_times c f (suc m) = let r = sum_times c f m in let d = mul-add c (sum_below f m) (f m) in omega arith
-
-drop_past : {K : Type 0} (front end : List K) (i : ℕ) → drop (length front + i) (front ++ end) ≡ drop i end
-drop_past front end i =
-    sym (drop-drop i (length front) (front ++ end)) ∙ ap (drop i) (drop_at front end (length front) refl)
 
 module _ {K : Type 0} where
   pub length_stretch : (seg : ℕ → List K) (m : ℕ) → length (stretch seg m) ≡ sum_below (λ j. length (seg j)) m
@@ -74,7 +59,7 @@ module _ {K : Type 0} where
       let n = length-append front end in
       let m : length (front ++ end) - t ≡ length front + (length end - t) = omega arith in
       let e : drop (length (front ++ end) - t) (front ++ end) ≡ drop (length end - t) end =
-      ap (λ (i : ℕ). drop i (front ++ end)) m ∙ drop_past front end (length end - t) in
+      ap (λ (i : ℕ). drop i (front ++ end)) m ∙ drop-append-add front end (length end - t) in
       let h = sum_by-take-drop (λ x. cond (alike k x) 1 0) end (length end - t) in
       let o = ap (occurs alike k) e in
       omega arith

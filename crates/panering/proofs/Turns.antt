@@ -1,31 +1,24 @@
 -- a ring that vouches for a list vouches for it with one arrival more
-use Rattle.std.proofs.Common.{◌≡◌, ℕ, zero, suc, ◌+◌, ◌-◌, ◌*◌, ◌<◌, ◌≤◌, min, Bool, true, false, List, [], ◌∷◌, ◌++◌, length, get_or, take, set, replicate, Some, Option, sym, refl, ap, ◌∙◌, ⊎_elim, add-one, arith}
-use Rattle.std.proofs.lemmas.List.{append_assoc, drop-replicate, get_or-replicate, get_or-set_other, get_or-set_same, length-map, length_push, length-replicate, length-set, take-replicate}
+use Rattle.std.proofs.Common.{◌≡◌, ℕ, zero, suc, ◌+◌, ◌*◌, ◌<◌, ◌≤◌, min, Bool, true, false, List, [], ◌∷◌, ◌++◌, length, get_or, set, replicate, Some, Option, sym, refl, ap, ◌∙◌, ⊎_elim, add-one, arith, None}
+use Rattle.std.proofs.lemmas.List.{append_assoc, get_or-replicate, get_or-set_other, get_or-set_same, length_push, length-replicate, length-set}
 use Rattle.std.proofs.lemmas.Bool.{cases_Bool, cases_lt, leb-false, leb-true}
 use Rattle.cells.proofs.Cleared.{cleared_vouches}
 use Rattle.cells.proofs.Kept.{note_kept}
-use Rattle.cells.specs.Cells.{cells_after, emptied, level_after, rule_for, worn, capped}
+use Rattle.cells.proofs.Lengths.{length_after, length_emptied}
+use Rattle.cells.specs.Cells.{Cell, cells_after, emptied, level_after, rule_for}
 use Rattle.cells.specs.Vouched.{Vouched}
-use Rattle.cells.specs.declared.cell.Cell.{Cell}
-use Rattle.cells.specs.declared.cell.Cell.TheVariants.{Free}
-use Rattle.cells.specs.declared.rule.Rule.{Rule}
-use Rattle.cells.specs.declared.rule.Rule.TheVariants.{Count, Enter, Raise}
+use Rattle.keys.specs.Kinds.{KeyKind}
 use Rattle.keys.specs.OfKey.{of_key}
-use Rattle.tally.proofs.Sameness.{Same}
-use Rattle.panering.specs.Panes.{fills, level_back, next_slot, noted_cells, noted_levels, one_more, pane, pane_back, ring_cells_after, ring_levels_after, shape_after, slot_back, turned, with_pane}
+use Rattle.std.specs.Cmp.{IsEquivalence}
+use Rattle.panering.specs.Panes.{fills, level_back, next_slot, noted_cells, noted_levels, one_more, pane_back, ring_cells_after, ring_levels_after, shape_after, slot_back, turned}
+use Rattle.panering.specs.PaneRing.{Noted, vouches}
 use Rattle.panering.specs.Ringed.{Ringed, Sized, size_back, stretch}
+use Rattle.panering.specs.declared.ring.PaneRing.{PaneRing}
 use Rattle.panering.specs.declared.shape.Shape.{Shape}
-use Rattle.panering.proofs.Areas.{pane_changed, pane_is, pane_other, slot_room, with_pane_length}
+use Rattle.parts.proofs.Areas.{part_changed, part_other, part_replicate, slot_room, with_part_length}
+use Rattle.parts.specs.Parts.{part, with_part}
 use Rattle.panering.proofs.Slots.{next_below, next_oldest, slot_below, slot_current, slot_turned, slots_differ}
 use Rattle.panering.proofs.Stretches.{stretch_noted, stretch_turned}
-
-pub length_after : {R X : Type 0} (level : ℕ) (r : R) (x : X) (cs : List (Cell R X)) (rule : Rule) → length (cells_after level r x cs rule) ≡ length cs
-length_after level r x cs (Count i) = length-set cs i _
-length_after level r x cs (Enter i) = length-set cs i _
-length_after level r x cs Raise = length-map cs (worn (capped (level + 1)))
-
-pub length_emptied : {R X : Type 0} (cs : List (Cell R X)) → length (emptied cs) ≡ length cs
-length_emptied cs = length-replicate (length cs) Free
 
 -- the segments after an arrival, and after a turn
 abbrev noted_seg : {K : Type 0} → (ℕ → List K) → K → ℕ → List K
@@ -36,7 +29,7 @@ abbrev turned_seg : {K : Type 0} → (ℕ → List K) → ℕ → List K
 turned_seg seg zero = []
 turned_seg seg (suc j) = seg j
 
-module _ {K R : Type 0} (alike : K → K → Bool) (reads : R → Option K) (law : Same alike) (key : K) (r : R) (restored : reads r ≡ Some key) (s : Shape) (levels : List ℕ) (cs : List (Cell R (Unit {0}))) (n : ℕ) (xs : List K) (v : Ringed alike reads s levels cs n xs) where
+module _ {K R : Type 0} (alike : K → K → Bool) (reads : R → Option K) (law : IsEquivalence alike) (key : K) (r : R) (restored : reads r ≡ Some key) (s : Shape) (levels : List ℕ) (cs : List (Cell R (Unit {0}))) (n : ℕ) (xs : List K) (v : Ringed alike reads s levels cs n xs) where
   abbrev is : R → Bool
   is = of_key alike reads key
 
@@ -59,26 +52,24 @@ module _ {K R : Type 0} (alike : K → K → Bool) (reads : R → Option K) (law
   room t l = slot_room s.k t s.panes (length cs) l v.sized.room
 
   length1 : length cells1 ≡ length cs
-  length1 = with_pane_length f keeps s.k cs s.slot (room s.slot v.sized.turned)
+  length1 = with_part_length f keeps s.k cs s.slot (room s.slot v.sized.turned)
 
   levelled1 : length levels1 ≡ 65
   levelled1 = length-set levels s.slot _ ∙ v.levelled
 
-  each1 : (j : ℕ) → j ≤ s.complete → Vouched alike reads (pane s.k (slot_back s j) cells1) (get_or levels1 (slot_back s j) 0) (size_back (one_more s) j) (seg1 j)
+  each1 : (j : ℕ) → j ≤ s.complete → Vouched alike reads (part s.k (slot_back s j) cells1) (get_or levels1 (slot_back s j) 0) (size_back (one_more s) j) (seg1 j)
   each1 zero h =
-      let z = v.sized in
       let at = slot_current s in
-      let was : Vouched alike reads (pane s.k s.slot cs) (get_or levels s.slot 0) s.filled (v.segments 0) = rw at at (v.each 0 h) in
-      let p = pane_changed f keeps s.k cs s.slot (room s.slot z.turned) in
-      let l : get_or levels1 s.slot 0 ≡ level_after (get_or levels s.slot 0) (rule_for is (pane s.k s.slot cs)) = get_or-set_same levels s.slot _ 0 (omega (arith, v.levelled)) in
-      rw (at, p, l) (note_kept alike reads law key r restored tt (pane s.k s.slot cs) (get_or levels s.slot 0) s.filled (v.segments 0) (omega arith) was)
+      let was : Vouched alike reads (part s.k s.slot cs) (get_or levels s.slot 0) s.filled (v.segments 0) = rw at at (v.each 0 h) in
+      let p = part_changed f keeps s.k cs s.slot (room s.slot v.sized.turned) in
+      let l : get_or levels1 s.slot 0 ≡ level_after (get_or levels s.slot 0) (rule_for is (part s.k s.slot cs)) = get_or-set_same levels s.slot _ 0 (omega (arith, v.levelled)) in
+      rw (at, p, l) (note_kept alike reads law key r restored tt (part s.k s.slot cs) (get_or levels s.slot 0) s.filled (v.segments 0) (omega arith) was)
   each1 (suc j) h =
-      let z = v.sized in
       let at = slot_current s in
       let t = slot_back s (suc j) in
-      let ne : s.slot ≡ t → ⊥ = λ e. slots_differ s 0 (suc j) z.turned (omega arith) (omega arith) (at ∙ e) in
-      let below = slot_below s (suc j) z.turned (omega arith) in
-      let p : pane s.k t cells1 ≡ pane s.k t cs = pane_other f keeps s.k cs s.slot t (room s.slot z.turned) (room t below) ne in
+      let ne : s.slot ≡ t → ⊥ = λ e. slots_differ s 0 (suc j) v.sized.turned (omega arith) (omega arith) (at ∙ e) in
+      let below = slot_below s (suc j) v.sized.turned (omega arith) in
+      let p : part s.k t cells1 ≡ part s.k t cs = part_other f keeps s.k cs s.slot t (room s.slot v.sized.turned) (room t below) ne in
       let l : get_or levels1 t 0 ≡ get_or levels t 0 = get_or-set_other levels s.slot t _ 0 (λ e. ne (sym e)) in
       rw (p, l) (v.each (suc j) h)
 
@@ -118,7 +109,7 @@ module _ {K R : Type 0} (alike : K → K → Bool) (reads : R → Option K) (law
       }
 
   abbrev cells2 : List (Cell R (Unit {0}))
-  cells2 = with_pane s.k (next_slot s) emptied cells1
+  cells2 = with_part s.k (next_slot s) emptied cells1
 
   abbrev levels2 : List ℕ
   levels2 = set levels1 (next_slot s) 0
@@ -130,19 +121,18 @@ module _ {K R : Type 0} (alike : K → K → Bool) (reads : R → Option K) (law
   room1 t l = omega (arith, room t l, length1)
 
   length2 : length cells2 ≡ length cs
-  length2 = with_pane_length emptied length_emptied s.k cells1 (next_slot s) (room1 (next_slot s) (next_below s)) ∙ length1
+  length2 = with_part_length emptied length_emptied s.k cells1 (next_slot s) (room1 (next_slot s) (next_below s)) ∙ length1
 
   size_filled : s.filled + 1 ≡ s.length → (j : ℕ) → size_back (one_more s) j ≡ s.length
   size_filled full zero = full
   size_filled full (suc j) = refl
 
-  each2 : s.filled + 1 ≡ s.length → (j : ℕ) → j ≤ min (s.complete + 1) s.panes → Vouched alike reads (pane s.k (slot_back (turned s) j) cells2) (get_or levels2 (slot_back (turned s) j) 0) (size_back (turned s) j) (seg2 j)
+  each2 : s.filled + 1 ≡ s.length → (j : ℕ) → j ≤ min (s.complete + 1) s.panes → Vouched alike reads (part s.k (slot_back (turned s) j) cells2) (get_or levels2 (slot_back (turned s) j) 0) (size_back (turned s) j) (seg2 j)
   each2 full zero h =
       let at : slot_back (turned s) 0 ≡ next_slot s = slot_current (turned s) in
-      let p = pane_changed emptied length_emptied s.k cells1 (next_slot s) (room1 (next_slot s) (next_below s)) in
-      let z = v.sized in
-      let l : get_or levels2 (next_slot s) 0 ≡ 0 = get_or-set_same levels1 (next_slot s) 0 0 (omega (arith, levelled1, next_below s, z.few_panes)) in
-      rw (at, p, l) (cleared_vouches (Unit {0}) alike reads (length (pane s.k (next_slot s) cells1)) (emptied (pane s.k (next_slot s) cells1)) refl)
+      let p = part_changed emptied length_emptied s.k cells1 (next_slot s) (room1 (next_slot s) (next_below s)) in
+      let l : get_or levels2 (next_slot s) 0 ≡ 0 = get_or-set_same levels1 (next_slot s) 0 0 (omega (arith, levelled1, next_below s)) in
+      rw (at, p, l) (cleared_vouches (Unit {0}) alike reads (length (part s.k (next_slot s) cells1)) (emptied (part s.k (next_slot s) cells1)) refl)
   each2 full (suc j) h =
       let z = v.sized in
       let less : j < s.panes = omega arith in
@@ -151,7 +141,7 @@ module _ {K R : Type 0} (alike : K → K → Bool) (reads : R → Option K) (law
       let far = next_oldest s z.some_panes z.turned in
       let ne : next_slot s ≡ t → ⊥ = λ e. slots_differ s j s.panes z.turned less (omega arith) (sym e ∙ far) in
       let below = slot_below s j z.turned (omega arith) in
-      let p : pane s.k t cells2 ≡ pane s.k t cells1 = pane_other emptied length_emptied s.k cells1 (next_slot s) t (room1 (next_slot s) (next_below s)) (room1 t below) ne in
+      let p : part s.k t cells2 ≡ part s.k t cells1 = part_other emptied length_emptied s.k cells1 (next_slot s) t (room1 (next_slot s) (next_below s)) (room1 t below) ne in
       let l : get_or levels2 t 0 ≡ get_or levels1 t 0 = get_or-set_other levels1 (next_slot s) t 0 0 (λ e. ne (sym e)) in
       let w = each1 j (omega arith) in
       rw (at, p, l) (rw (size_filled full j) at w)
@@ -186,7 +176,6 @@ module _ {K R : Type 0} (alike : K → K → Bool) (reads : R → Option K) (law
         each = each2 full;
       })
       (λ (l : s.panes ≤ s.complete).
-      let c = z.counted in
       let m : min (s.complete + 1) s.panes + 1 ≡ suc s.complete = omega arith in
       let a = add-one s.complete in
       record {
@@ -214,18 +203,10 @@ module _ {K R : Type 0} (alike : K → K → Bool) (reads : R → Option K) (law
       (λ (t : fills s ≡ false). rw t (kept_on few (λ e. omega (arith, leb-false s.length (s.filled + 1) t))))
       (cases_Bool (fills s))
 
--- a pane of free cells
-pane_free : (R : Type 0) (k t m : ℕ) → t * k + k ≤ m → pane {X = Cell R (Unit {0})} k t (replicate m Free) ≡ replicate k Free
-pane_free R k t m l =
-    let n : length (replicate {A = Cell R (Unit {0})} m Free) ≡ m = length-replicate m Free in
-    pane_is k t (replicate m Free) (omega arith)
-    ∙ ap (take k) (drop-replicate (t * k) m Free)
-    ∙ take-replicate k (m - t * k) Free (omega arith)
-
 -- a ring that has noted nothing: all cells are free, all levels 0
-pub ring_empty : {K R : Type 0} (alike : K → K → Bool) (reads : R → Option K) (s : Shape) (m : ℕ) (cs : List (Cell R (Unit {0}))) → cs ≡ replicate m Free → Sized s m → s.filled ≡ 0 → s.complete ≡ 0 → Ringed alike reads s (replicate 65 0) cs 0 []
+pub ring_empty : {K R : Type 0} (alike : K → K → Bool) (reads : R → Option K) (s : Shape) (m : ℕ) (cs : List (Cell R (Unit {0}))) → cs ≡ replicate m None → Sized s m → s.filled ≡ 0 → s.complete ≡ 0 → Ringed alike reads s (replicate 65 0) cs 0 []
 ring_empty {K} {R} alike reads s m cs e z f c =
-    let n : length cs ≡ m = ap length e ∙ length-replicate m Free in
+    let n : length cs ≡ m = ap length e ∙ length-replicate m None in
     let one : s.complete + 1 ≡ 1 = omega arith in
     let none : ℕ → List K = λ _. [] in
     record {
@@ -242,11 +223,12 @@ ring_empty {K} {R} alike reads s m cs e z f c =
           let t = slot_back s 0 in
           let below = slot_below s 0 z.turned (omega arith) in
           let room : t * s.k + s.k ≤ m = slot_room s.k t s.panes m below z.room in
-          let p : pane_back s cs 0 ≡ replicate s.k Free = ap (pane s.k t) e ∙ pane_free R s.k t m room in
+          let p : pane_back s cs 0 ≡ replicate s.k None = ap (part s.k t) e ∙ part_replicate s.k t m None room in
           let l : level_back s (replicate 65 0) 0 ≡ 0 = get_or-replicate 65 t 0 0 (omega (arith, below, z.few_panes)) in
-          rw (j0, p, l, f) (cleared_vouches (Unit {0}) alike reads s.k (replicate s.k Free) refl);
+          rw (j0, p, l, f) (cleared_vouches (Unit {0}) alike reads s.k (replicate s.k None) refl);
     }
 
--- the same of equal parts
-pub ring_moved : {K R X : Type 0} (alike : K → K → Bool) (reads : R → Option K) (s t : Shape) (levels others : List ℕ) (cs ds : List (Cell R X)) (n m : ℕ) (xs : List K) → t ≡ s → others ≡ levels → ds ≡ cs → m ≡ n → Ringed alike reads s levels cs n xs → Ringed alike reads t others ds m xs
-ring_moved alike reads s t levels others cs ds n m xs a b c d v = rw (a, b, c, d) v
+-- a ring as it stands, after an arrival
+pub vouches_noted : {K R : Type 0} (kind : KeyKind K R) (law : IsEquivalence kind.eq) (restored : (k : K) → kind.reads (kind.lies k) ≡ Some k) (k : K) (was t : PaneRing K R) (xs : List K) → was.run.arrivals < 100_000_000 → Noted kind k was t → vouches kind was xs → vouches kind t (xs ++ k ∷ [])
+vouches_noted kind law restored k was t xs few e v =
+    rw (e.shape, e.levels, e.cells, e.run) (ring_noted kind.eq kind.reads law k (kind.lies k) (restored k) was.shape was.levels was.cells.now was.run.arrivals xs v few)

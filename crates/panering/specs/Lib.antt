@@ -1,2 +1,3 @@
+pub mod PaneRing
 pub mod Panes
 pub mod Ringed

@@ -1,6 +1,6 @@
 use Rattle.std.specs.Prelude.{◌≡◌, ℕ, zero, suc, ◌+◌, ◌*◌, ◌<◌, ◌≤◌, Bool, List, [], ◌++◌, length, Option}
 use Rattle.cells.specs.Vouched.{Vouched}
-use Rattle.cells.specs.declared.cell.Cell.{Cell}
+use Rattle.cells.specs.Cells.{Cell}
 use Rattle.tally.specs.Owed.{most_arrivals}
 use Rattle.panering.specs.Panes.{level_back, pane_back}
 use Rattle.panering.specs.declared.shape.Shape.{Shape}
@@ -16,8 +16,9 @@ pub record Sized (s : Shape) (area : ℕ) : Type 0 where
   pub unfilled : s.filled < s.length
   pub counted : s.complete ≤ s.panes
 
--- a shape that has turned nowhere
-pub record Unturned (s : Shape) : Type 0 where
+-- and that has turned nowhere
+pub record Fresh (s : Shape) (area : ℕ) : Type 0 where
+  pub sized : Sized s area
   pub no_arrivals : s.filled ≡ 0
   pub no_panes : s.complete ≡ 0
 

@@ -1,41 +1,39 @@
-ghost use Rattle.std.specs.Prelude.{◌≡◌, min, true, length};
-ghost use Rattle.keys.specs.OfKey.{of_key};
-ghost use Rattle.panering.specs.Panes.{has_plan, ring_high, ring_key, ring_low, ring_reach, ring_spots, ring_top, ring_width};
-ghost use Rattle.panering.specs.Ringed.{Ringed};
-ghost use Rattle.tally.specs.Owed.{most_arrivals};
+ghost use Rattle.std.specs.Prelude.{IsTrue, length};
+ghost use Rattle.panering.specs.PaneRing.{high_of, key_of, low_of, reach_of, spots_of, top_of, vouches, width_of};
+ghost use Rattle.panering.specs.Panes.{has_plan};
 
 use crate::ring::PaneRing;
-use crate::sums::key_back;
+use cells::each::key_at;
 use keys::key::Key;
 use keys::refusal::Refusal;
-use tally::{MOST_ARRIVALS, Tally};
+use tally::Tally;
 
 // The pane ring as a tally: its reach is P panes.
 impl<'a, K: Key> Tally for PaneRing<'a, K> {
     type Key = K;
 
-    ghost vouches = { λ t. Ringed K.Key.alike K.Key.reads t.shape t.levels t.cells.now t.noted };
+    ghost vouches = { vouches K.Key };
 
-    ghost planned = { λ t. has_plan t.shape (length t.cells.now) ≡ true };
+    ghost planned = { λ t. IsTrue (has_plan t.shape (length t.cells.now)) };
 
-    ghost noted = { λ t. min t.noted most_arrivals };
+    ghost noted = { λ t. t.run.arrivals };
 
-    ghost reaches = { λ t. ring_reach t.shape };
+    ghost reaches = { reach_of };
 
-    ghost low = { λ t k. ring_low (of_key K.Key.alike K.Key.reads k) t.shape t.levels t.cells.now };
+    ghost low = { low_of K.Key };
 
-    ghost high = { λ t k. ring_high (of_key K.Key.alike K.Key.reads k) t.shape t.levels t.cells.now };
+    ghost high = { high_of K.Key };
 
-    ghost wide = { λ t. ring_width t.shape t.levels };
+    ghost wide = { width_of };
 
-    ghost top = { λ t. ring_top t.shape t.levels };
+    ghost top = { top_of };
 
-    ghost spots = { λ t. ring_spots t.shape };
+    ghost spots = { spots_of };
 
-    ghost held = { λ t. ring_key K.Key.reads t.shape t.cells.now };
+    ghost held = { key_of K.Key };
 
     fn arrivals(&self) -> u32 {
-        self.noted.min(MOST_ARRIVALS)
+        self.run.arrivals()
     }
 
     fn reach(&self) -> u32 {
@@ -43,7 +41,7 @@ impl<'a, K: Key> Tally for PaneRing<'a, K> {
     }
 
     fn range(&self, key: K) -> (u32, u32) {
-        self.ends(key)
+        (self.low_end(key), self.high_end(key))
     }
 
     fn width(&self) -> u32 {
@@ -51,15 +49,24 @@ impl<'a, K: Key> Tally for PaneRing<'a, K> {
     }
 
     fn ceiling(&self) -> u32 {
-        self.roof()
+        self.top()
     }
 
     fn places(&self) -> usize {
         self.shape.spots()
     }
 
+    // The key at a place, from the current pane back to the oldest, cell by cell.
     fn key_at(&self, place: usize) -> Option<K> {
-        key_back(self.cells, self.shape, place)
+        if place >= self.shape.spots() {
+            return None;
+        }
+        let k = usize::from(self.shape.k);
+        let back = place / k;
+        if back >= self.shape.kept() {
+            return None;
+        }
+        key_at(self.pane_back(back), place % k)
     }
 
     fn note(&mut self, key: K) -> Result<(), Refusal> {

@@ -4,10 +4,9 @@
 pub mod as_tally;
 pub mod count;
 pub mod open;
-mod panes;
 mod query;
 pub mod ring;
 pub mod shape;
-mod sums;
+mod sum;
 #[cfg(test)]
 mod tests;

@@ -1,8 +1,10 @@
-ghost use Rattle.std.specs.Prelude.{◌≡◌, ◌≤◌, if◌then◌else◌, nat_eq};
-ghost use Rattle.panering.specs.Panes.{fills, inside, kept, next_slot, ring_spots, shape_after, slot_back};
+ghost use Rattle.std.specs.Prelude.{◌≡◌, ◌≤◌};
+ghost use Rattle.panering.specs.Panes.{fills, inside, kept, next_slot, ring_spots, shape_after, slot_back, tail};
 
 // The plan of a ring, and how far it has turned.
-#[derive(Clone, Copy)]
+// No bound of its numbers stands in its type: the rules give the shape after an arrival for each
+// shape, and would have to carry the bounds along.
+#[derive(Clone, Copy, Debug, PartialEq, Eq)]
 pub struct Shape {
     // How many cells a pane has.
     pub(crate) k: u8,
@@ -21,8 +23,7 @@ pub struct Shape {
 impl Shape {
     // The slot of the pane that came j panes before the current one.
     pub(crate) fn slot_back(self, j: usize) -> usize
-        ensures value { result ≡ slot_back self j }
-        ensures bound { result ≤ 511 }
+        ensures { result ≡ slot_back self j }
     {
         let slot = usize::from(self.slot);
         let panes = usize::from(self.panes);
@@ -48,7 +49,7 @@ impl Shape {
     pub(crate) fn inside(self) -> usize
         ensures { result ≡ inside self }
     {
-        (usize::from(self.complete) + 1).min(usize::from(self.panes))
+        self.kept().min(usize::from(self.panes))
     }
 
     // How many panes are kept.
@@ -56,14 +57,6 @@ impl Shape {
         ensures { result ≡ kept self }
     {
         usize::from(self.complete) + 1
-    }
-
-    // How many cells a pane has.
-    pub(crate) fn per_pane(self) -> usize
-        ensures value { result ≡ self.k }
-        ensures bound { result ≤ 255 }
-    {
-        usize::from(self.k)
     }
 
     // How many cells all panes have: the places of the ring.
@@ -76,7 +69,7 @@ impl Shape {
 
     // What a tail adds to the width: a pane length, where there is a tail.
     pub(crate) fn tail(self) -> u32
-        ensures { result ≡ (if nat_eq self.complete self.panes then self.length else 0) }
+        ensures { result ≡ tail self }
     {
         if self.complete == self.panes {
             u32::from(self.length)
@@ -97,22 +90,17 @@ impl Shape {
         ensures { result ≡ shape_after self }
     {
         if self.fills() {
-            return Shape {
-                k: self.k,
-                panes: self.panes,
-                length: self.length,
+            Shape {
                 slot: self.next_slot(),
                 filled: 0,
                 complete: self.complete.saturating_add(1).min(self.panes),
-            };
-        }
-        Shape {
-            k: self.k,
-            panes: self.panes,
-            length: self.length,
-            slot: self.slot,
-            filled: self.filled + 1,
-            complete: self.complete,
+                ..self
+            }
+        } else {
+            Shape {
+                filled: self.filled + 1,
+                ..self
+            }
         }
     }
 }

@@ -9,7 +9,8 @@ use cells::note::note_in;
 use cells::rule::Rule;
 use keys::key::Key;
 
-// Where a part begins, if the area has all of it.
+// Where a part begins, if the area has all of it. Kept as a range of places: what `chunks_mut` or a
+// split lends is not known again afterwards, and what a range lends is.
 fn start(area: usize, k: usize, s: usize) -> Option<usize>
     ensures value { result ≡ (if nat_le (s * k + k) area then Some (s * k) else None) }
     ensures within { IfSome result (λ from. from + k ≤ area) }
@@ -25,7 +26,7 @@ pub fn part_of<X>(cells: &[X], k: usize, s: usize) -> &[X]
 {
     match start(cells.len(), k, s) {
         Some(from) => &cells[from..from + k],
-        None => &cells[0..0],
+        None => &[],
     }
 }
 
@@ -38,8 +39,8 @@ fn note_range<K: Key>(
     key: K,
 ) -> Rule
     requires { from + k ≤ length cells.old }
-    ensures cells { cells.new ≡ amid from k (λ p. cells_after level (K.Key.lies key) tt p (rule_for (of_key K.Key.alike K.Key.reads key) p)) cells.old }
-    ensures rule { result ≡ rule_for (of_key K.Key.alike K.Key.reads key) (take k (drop from cells.old)) }
+    ensures cells { cells.new ≡ amid from k (λ p. cells_after level (K.Key.lies key) tt p (rule_for (of_key K.eq K.Key.reads key) p)) cells.old }
+    ensures rule { result ≡ rule_for (of_key K.eq K.Key.reads key) (take k (drop from cells.old)) }
 {
     note_in(&mut cells[from..from + k], level, key, ())
 }
@@ -61,8 +62,8 @@ pub fn note_part<K: Key>(
     level: u32,
     key: K,
 ) -> u32
-    ensures cells { cells.new ≡ with_part k s (λ p. cells_after level (K.Key.lies key) tt p (rule_for (of_key K.Key.alike K.Key.reads key) p)) cells.old }
-    ensures level { result ≡ level_after level (rule_for (of_key K.Key.alike K.Key.reads key) (part k s cells.old)) }
+    ensures cells { cells.new ≡ with_part k s (λ p. cells_after level (K.Key.lies key) tt p (rule_for (of_key K.eq K.Key.reads key) p)) cells.old }
+    ensures level { result ≡ level_after level (rule_for (of_key K.eq K.Key.reads key) (part k s cells.old)) }
 {
     match start(cells.len(), k, s) {
         Some(from) => note_range(cells, from, k, level, key).level_after(level),

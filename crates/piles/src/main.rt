@@ -2,23 +2,25 @@
 // a plain list of all arrivals.
 #![tactic(auto)]
 
-mod compare;
+mod pile;
 
-use cells::cell::Cell;
-use compare::compare;
 use counttable::table::CountTable;
 use exactlog::log::ExactLog;
 use keys::reader::Reader;
 use layers::trim::Trim;
 use layers::watch::Watch;
 use panering::ring::PaneRing;
+use pile::compare;
 use std::io;
 use tally::Tally;
 
-fn tables(rt: &HostRuntime, watched: Reader) -> io::Result<()> {
-    let mut area = [Cell::Free; 3];
-    let mut table = CountTable::<Reader>::over(&mut area);
-    let _ = table.open(3);
+// The three piles are made over any tally, since no proof covers a layer over a type that borrows
+// its cells.
+fn over_table<T: Tally<Key = Reader> + Drop>(
+    rt: &HostRuntime,
+    mut table: T,
+    watched: Reader,
+) -> io::Result<()> {
     compare(rt, "table", &mut table)?;
     let mut trimmed = Trim::over(table);
     compare(rt, "trim over table", &mut trimmed)?;
@@ -26,10 +28,11 @@ fn tables(rt: &HostRuntime, watched: Reader) -> io::Result<()> {
     compare(rt, "watch over trim over table", &mut watch)
 }
 
-fn rings(rt: &HostRuntime, watched: Reader) -> io::Result<()> {
-    let mut area = [Cell::Free; 8];
-    let mut ring = PaneRing::<Reader>::over(&mut area);
-    let _ = ring.open(5, 3, 2);
+fn over_ring<T: Tally<Key = Reader> + Drop>(
+    rt: &HostRuntime,
+    mut ring: T,
+    watched: Reader,
+) -> io::Result<()> {
     compare(rt, "ring", &mut ring)?;
     let mut trimmed = Trim::over(ring);
     compare(rt, "trim over ring", &mut trimmed)?;
@@ -39,10 +42,11 @@ fn rings(rt: &HostRuntime, watched: Reader) -> io::Result<()> {
     compare(rt, "trim over watch over trim over ring", &mut pile)
 }
 
-fn logs(rt: &HostRuntime, watched: Reader) -> io::Result<()> {
-    let mut area = [0u16; 7];
-    let mut log = ExactLog::<Reader>::over(&mut area);
-    let _ = log.open(7);
+fn over_log<T: Tally<Key = Reader> + Drop>(
+    rt: &HostRuntime,
+    mut log: T,
+    watched: Reader,
+) -> io::Result<()> {
     compare(rt, "log", &mut log)?;
     let mut watch = Watch::over(log, watched);
     compare(rt, "watch over log", &mut watch)?;
@@ -50,11 +54,12 @@ fn logs(rt: &HostRuntime, watched: Reader) -> io::Result<()> {
     compare(rt, "trim over watch over log", &mut pile)
 }
 
-// The range of the one reader that came three times to a ring of one pane of two, bare and trimmed.
-fn edge(rt: &HostRuntime, reader: Reader) -> io::Result<()> {
-    let mut area = [Cell::Free; 2];
-    let mut ring = PaneRing::<Reader>::over(&mut area);
-    let _ = ring.open(2, 1, 1);
+// The range of the one reader that came three times to a tally, bare and trimmed.
+fn at_edge<T: Tally<Key = Reader> + Drop>(
+    rt: &HostRuntime,
+    mut ring: T,
+    reader: Reader,
+) -> io::Result<()> {
     let _ = ring.note(reader);
     let _ = ring.note(reader);
     let (low, high) = ring.range(reader);
@@ -67,8 +72,37 @@ fn edge(rt: &HostRuntime, reader: Reader) -> io::Result<()> {
     println!(rt; "trim over ring after three: {low} to {high}")
 }
 
+fn tables(rt: &HostRuntime, watched: Reader) -> io::Result<()> {
+    let mut area = [None; 3];
+    let mut table = CountTable::<Reader>::over(&mut area);
+    let _ = table.open(3);
+    over_table(rt, table, watched)
+}
+
+fn rings(rt: &HostRuntime, watched: Reader) -> io::Result<()> {
+    let mut area = [None; 8];
+    let mut ring = PaneRing::<Reader>::over(&mut area);
+    let _ = ring.open(5, 3, 2);
+    over_ring(rt, ring, watched)
+}
+
+fn logs(rt: &HostRuntime, watched: Reader) -> io::Result<()> {
+    let mut area = [0u16; 7];
+    let mut log = ExactLog::<Reader>::over(&mut area);
+    let _ = log.open(7);
+    over_log(rt, log, watched)
+}
+
+// A ring of one pane of two.
+fn edge(rt: &HostRuntime, reader: Reader) -> io::Result<()> {
+    let mut area = [None; 2];
+    let mut ring = PaneRing::<Reader>::over(&mut area);
+    let _ = ring.open(2, 1, 1);
+    at_edge(rt, ring, reader)
+}
+
 fn main(rt: HostRuntime) -> io::Result<()> {
-    let Some(watched) = Reader::new(2) else {
+    let Ok(watched) = Reader::try_from(2) else {
         return Ok(());
     };
     edge(&rt, watched)?;

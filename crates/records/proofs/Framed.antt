@@ -64,13 +64,16 @@ pub record Held (b : Badge) : Type 0 where
   pub site : b.site < 256
   pub card : b.card < 65536
 
-pub first_bit_is : (b : Badge) → Held b → even_bit (take 12 (badge_bits b)) ≡ (ones b.site + ones (b.card / 4096)) % 2
-first_bit_is b h =
+front_sum : (b : Badge) → Held b → sum (take 12 (badge_bits b)) ≡ ones b.site + ones (b.card / 4096)
+front_sum b h =
     let u : b.site % 256 ≡ b.site = mod-eq_of_lt h.site in
     let v : b.card / 4096 % 16 ≡ b.card / 4096 = mod-eq_of_lt (omega arith) in
-    ap (λ n. n % 2) (front_ones b.site b.card) ∙ rw (u, v) refl
+    front_ones b.site b.card ∙ rw (u, v) refl
 
-pub last_bit_is : (b : Badge) → odd_bit (drop 12 (badge_bits b)) ≡ 1 - ones (b.card % 4096) % 2
+first_bit_is : (b : Badge) → Held b → even_bit (take 12 (badge_bits b)) ≡ (ones b.site + ones (b.card / 4096)) % 2
+first_bit_is b h = ap (λ n. n % 2) (front_sum b h)
+
+last_bit_is : (b : Badge) → odd_bit (drop 12 (badge_bits b)) ≡ 1 - ones (b.card % 4096) % 2
 last_bit_is b = ap (λ n. 1 - n % 2) (back_ones b.site b.card)
 
 pub framed_is : (x : ℕ) (b : Badge) (y : ℕ) → Held b → number_from_digits 2 (x ∷ (badge_bits b ++ (y ∷ []))) ≡ framed x b y
@@ -137,3 +140,10 @@ written_back f w =
     let u : even_bit (take 12 (badge_bits b)) ≡ x = first_bit_is b h ∙ omega arith in
     let v : odd_bit (drop 12 (badge_bits b)) ≡ y = last_bit_is b ∙ omega arith in
     ap frame_of (badge_is f) ∙ rw (u, v) (framed_is x b y h ∙ sym whole)
+
+-- the ones in the two halves, by the badge's bits
+pub first_sum : (x : ℕ) (b : Badge) (y : ℕ) → x < 2 → y < 2 → Held b → sum (first_thirteen (framed x b y)) ≡ x + sum (take 12 (badge_bits b))
+first_sum x b y i j h = first_ones (framed x b y) ∙ first_half x b y i j h ∙ ap (λ n. x + n) (sym (front_sum b h))
+
+pub last_sum : (x : ℕ) (b : Badge) (y : ℕ) → y < 2 → sum (last_thirteen (framed x b y)) ≡ sum (drop 12 (badge_bits b)) + y
+last_sum x b y j = last_ones (framed x b y) ∙ last_half x b y j ∙ ap (λ n. n + y) (sym (back_ones b.site b.card))

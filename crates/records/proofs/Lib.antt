@@ -1,4 +1,3 @@
 mod BitLists
-mod FieldBytes
 mod Framed
 mod Masked

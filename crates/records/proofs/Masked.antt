@@ -1,11 +1,11 @@
 -- what the shifts and masks of the code compute
-use Rattle.std.proofs.Common.{◌≡◌, ℕ, ◌+◌, ◌-◌, ◌*◌, ◌/◌, ◌%◌, ◌<◌, take, drop, sum, sym, refl, ap, ◌∙◌, mod-eq_of_lt, arith}
+use Rattle.std.proofs.Common.{◌≡◌, ℕ, ◌+◌, ◌*◌, ◌/◌, ◌%◌, ◌<◌, sum, sym, refl, ap, ◌∙◌, mod-eq_of_lt, arith}
 use lib.Bits.{bit_and, bit_or}
-use lib.Count.{ones, ones_cat}
+use lib.Count.{ones}
 use Rattle.std.proofs.lemmas.Nat.{and_mask, or_shifted}
 use Rattle.keys.specs.declared.badge.Badge.{Badge}
-use Rattle.records.specs.Frames.{first_thirteen, last_thirteen, badge_in, badge_bits, even_bit, odd_bit}
-use Rattle.records.proofs.Framed.{Held, first_ones, last_ones, badge_is, first_bit_is, last_bit_is}
+use Rattle.records.specs.Frames.{first_thirteen, last_thirteen, badge_in}
+use Rattle.records.proofs.Framed.{Held, framed, first_ones, last_ones, badge_is}
 
 pub first_masked : (f : ℕ) → ones (bit_and (f / 8192) 8191) ≡ sum (first_thirteen f)
 first_masked f = ap ones (and_mask (f / 8192) 13) ∙ sym (first_ones f)
@@ -19,27 +19,16 @@ fields_masked f =
     let b : bit_and (f / 2) 65535 ≡ f / 2 % 65536 = and_mask (f / 2) 16 in
     rw (badge_is f, a, b) refl
 
--- a badge's two numbers put together
-pub body_shifted : (s c : ℕ) → s < 256 → c < 65536 → bit_or (s * 65536 % 4294967296) c ≡ s * 65536 + c
-body_shifted s c p q =
-    let a : s * 65536 % 4294967296 ≡ s * 65536 = mod-eq_of_lt (omega arith) in rw a (or_shifted s 16 c q)
-
-pub first_bit_shifted : (b : Badge) → Held b → ones ((b.site * 65536 + b.card) / 4096) % 2 ≡ even_bit (take 12 (badge_bits b))
-first_bit_shifted b h =
-    let e : (b.site * 65536 + b.card) / 4096 ≡ b.site * 16 + b.card / 4096 = omega arith in
-    let o = ones_cat 4 b.site (b.card / 4096) (omega arith) in
-    rw e (ap (λ n. n % 2) o) ∙ sym (first_bit_is b h)
-
-pub last_bit_masked : (b : Badge) → 1 - ones (bit_and (b.site * 65536 + b.card) 4095) % 2 ≡ odd_bit (drop 12 (badge_bits b))
-last_bit_masked b =
-    let m : bit_and (b.site * 65536 + b.card) 4095 ≡ b.card % 4096 = and_mask (b.site * 65536 + b.card) 12 ∙ omega arith in
-    rw m refl ∙ sym (last_bit_is b)
-
--- a first bit, a body of 24 bits and a last bit put together
-pub ends_shifted : (x g y : ℕ) → x < 2 → g < 16777216 → y < 2 → bit_or (bit_or (x * 33554432 % 4294967296) (g * 2 % 4294967296)) y ≡ x * 33554432 + g * 2 + y
-ends_shifted x g y i h j =
+-- a first bit, a badge's two numbers and a last bit put together
+pub joined_shifted : (x : ℕ) (b : Badge) (y s c : ℕ) → s ≡ b.site → c ≡ b.card → x < 2 → y < 2 → Held b → bit_or (bit_or (bit_or (x * 33554432 % 4294967296) (s * 131072 % 4294967296)) (c * 2 % 4294967296)) y ≡ framed x b y
+joined_shifted x b y s c u v i j h =
+    let k : s < 256 = omega (arith, h.site) in
+    let l : c < 65536 = omega (arith, h.card) in
     let a : x * 33554432 % 4294967296 ≡ x * 33554432 = mod-eq_of_lt (omega arith) in
-    let b : g * 2 % 4294967296 ≡ g * 2 = mod-eq_of_lt (omega arith) in
-    let d : bit_or (x * 33554432) (g * 2) ≡ x * 33554432 + g * 2 = or_shifted x 25 (g * 2) (omega arith) in
-    let e : x * 33554432 + g * 2 ≡ (x * 16777216 + g) * 2 = omega arith in
-    rw (a, b, d, e) (or_shifted (x * 16777216 + g) 1 y j)
+    let b : s * 131072 % 4294967296 ≡ s * 131072 = mod-eq_of_lt (omega arith) in
+    let d : c * 2 % 4294967296 ≡ c * 2 = mod-eq_of_lt (omega arith) in
+    let e : bit_or (x * 33554432) (s * 131072) ≡ x * 33554432 + s * 131072 = or_shifted x 25 (s * 131072) (omega arith) in
+    let f : x * 33554432 + s * 131072 ≡ (x * 256 + s) * 131072 = omega arith in
+    let g : bit_or ((x * 256 + s) * 131072) (c * 2) ≡ (x * 256 + s) * 131072 + c * 2 = or_shifted (x * 256 + s) 17 (c * 2) (omega arith) in
+    let m : (x * 256 + s) * 131072 + c * 2 ≡ ((x * 256 + s) * 65536 + c) * 2 = omega arith in
+    rw (a, b, d, e, f, g, m) (or_shifted ((x * 256 + s) * 65536 + c) 1 y j ∙ omega (arith, u, v))

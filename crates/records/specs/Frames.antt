@@ -1,6 +1,6 @@
-use Rattle.std.specs.Prelude.{ℕ, zero, suc, ◌-◌, ◌/◌, ◌%◌, ◌^◌, Bool, cond, ◌&&◌, List, [], ◌∷◌, ◌++◌, take, drop, Ok, Err, sum, Result, ◌==◌}
+use Rattle.std.specs.Prelude.{ℕ, zero, suc, ◌-◌, ◌/◌, ◌%◌, ◌^◌, Bool, if◌then◌else◌, ◌&&◌, List, [], ◌∷◌, ◌++◌, take, drop, Ok, Err, sum, Result, ◌==◌}
 use Rattle.std.specs.Int.Digits.{number_from_digits}
-use Rattle.keys.specs.Refusals.{number_of}
+use Rattle.keys.specs.declared.refusal.Refusal.{Refusal}
 use Rattle.keys.specs.declared.refusal.Refusal.TheVariants.{MisreadBadge}
 use Rattle.keys.specs.declared.badge.Badge.{Badge}
 
@@ -33,9 +33,9 @@ well_formed f = zeros_above f && (even (sum (first_thirteen f)) && odd (sum (las
 abbrev pub badge_in : ℕ → Badge
 badge_in f = record { site = number_from_digits 2 (take 8 (drop 1 (bits 26 f))); card = number_from_digits 2 (take 16 (drop 9 (bits 26 f))) }
 
--- what is read of a frame: the badge in it where it is well formed, otherwise the number of the refusal
-abbrev pub frame_read : ℕ → Result Badge ℕ
-frame_read f = cond (well_formed f) (Ok (badge_in f)) (Err (number_of MisreadBadge))
+-- what is read of a frame: the badge in it where it is well formed, otherwise the refusal
+abbrev pub frame_read : ℕ → Result Badge Refusal
+frame_read f = if well_formed f then Ok (badge_in f) else Err MisreadBadge
 
 -- the bit that makes the number of ones even, or odd
 abbrev pub even_bit : List ℕ → ℕ

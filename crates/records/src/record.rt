@@ -3,7 +3,7 @@ use keys::reader::Reader;
 use keys::share::Fraction;
 
 // What the core hears.
-#[derive(Clone, Copy)]
+#[derive(Clone, Copy, Debug, PartialEq, Eq)]
 pub enum Record {
     // A badge was shown at a reader.
     Event(Reader, Badge),

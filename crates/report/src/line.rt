@@ -1,71 +1,58 @@
-ghost use Rattle.std.specs.Prelude.{◌≡◌, IfOk, string_bytes};
-ghost use Rattle.report.specs.Texts.{badge_line, first_line, judged_line, reader_line};
-ghost use Rattle.meter.specs.declared.verdict.Verdict.TheVariants.{Over, Unsure, Within};
+ghost use Rattle.std.specs.Prelude.{Some};
+ghost use Rattle.report.specs.Texts.{badge_line, first_line, judged_line};
 
 use keys::badge::Badge;
-use keys::share::Fraction;
 use listings::row::{BadgeRow, ReaderRow};
 use meter::verdict::Verdict;
-use std::alloc::{AllocError, Global};
+use std::fmt;
 
-// The first line of a report.
-pub(crate) fn head(heap: Global, n: u32, t: u32) -> Result<String, AllocError>
-    ensures { IfOk result (λ s. string_bytes s ≡ first_line n t) }
-{
-    format!(in heap; "report {n} {t}\n")
+// The first line of a report: n and T. Kept beside the counts of `flowreport`, which does not use this
+// crate before it prints listings.
+#[derive(Clone, Copy, Debug, PartialEq, Eq)]
+pub(crate) struct Head {
+    pub(crate) n: u32,
+    pub(crate) t: u32,
+}
+
+impl fmt::Display for Head {
+    ghost output = { λ head. Some (first_line head.n head.t) };
+
+    fn fmt<W: fmt::Write>(&self, f: &mut fmt::Formatter<W>) -> fmt::Result {
+        write!(f, "report {} {}\n", self.n, self.t)
+    }
+}
+
+// The line of a listed reader, with the verdict on it.
+#[derive(Clone, Copy)]
+pub(crate) struct ReaderLine {
+    pub(crate) row: ReaderRow<u16>,
+    pub(crate) verdict: Verdict,
+}
+
+impl fmt::Display for ReaderLine {
+    ghost output = { λ line. Some (judged_line line.row line.verdict) };
+
+    fn fmt<W: fmt::Write>(&self, f: &mut fmt::Formatter<W>) -> fmt::Result {
+        let ReaderRow { key, low, high } = self.row;
+        let verdict = self.verdict;
+        write!(f, "reader {key} {low} {high} {verdict}\n")
+    }
 }
 
 // The line of a listed badge.
-pub(crate) fn badge_text(heap: Global, row: BadgeRow<u16, Badge>) -> Result<String, AllocError>
-    ensures { IfOk result (λ s. string_bytes s ≡ badge_line row) }
-{
-    let reader = row.reader;
-    let site = row.badge.site;
-    let card = row.badge.card;
-    let low = row.low;
-    let high = row.high;
-    format!(in heap; "badge {reader} {site} {card} {low} {high}\n")
-}
+#[derive(Clone, Copy)]
+pub(crate) struct BadgeLine(pub(crate) BadgeRow<u16, Badge>);
 
-fn over_text(heap: Global, row: ReaderRow<u16>) -> Result<String, AllocError>
-    ensures { IfOk result (λ s. string_bytes s ≡ judged_line row Over) }
-{
-    let reader = row.key;
-    let low = row.low;
-    let high = row.high;
-    format!(in heap; "reader {reader} {low} {high} over\n")
-}
+impl fmt::Display for BadgeLine {
+    ghost output = { λ line. Some (badge_line line.0) };
 
-fn within_text(heap: Global, row: ReaderRow<u16>) -> Result<String, AllocError>
-    ensures { IfOk result (λ s. string_bytes s ≡ judged_line row Within) }
-{
-    let reader = row.key;
-    let low = row.low;
-    let high = row.high;
-    format!(in heap; "reader {reader} {low} {high} within\n")
-}
-
-fn unsure_text(heap: Global, row: ReaderRow<u16>) -> Result<String, AllocError>
-    ensures { IfOk result (λ s. string_bytes s ≡ judged_line row Unsure) }
-{
-    let reader = row.key;
-    let low = row.low;
-    let high = row.high;
-    format!(in heap; "reader {reader} {low} {high} unsure\n")
-}
-
-// The line of a listed reader, with the verdict at a share of t.
-pub(crate) fn reader_text(
-    heap: Global,
-    row: ReaderRow<u16>,
-    share: Fraction,
-    t: u32,
-) -> Result<String, AllocError>
-    ensures { IfOk result (λ s. string_bytes s ≡ reader_line share.p share.q t row) }
-{
-    match Verdict::on(share, t, (row.low, row.high)) {
-        Verdict::Over => over_text(heap, row),
-        Verdict::Within => within_text(heap, row),
-        Verdict::Unsure => unsure_text(heap, row),
+    fn fmt<W: fmt::Write>(&self, f: &mut fmt::Formatter<W>) -> fmt::Result {
+        let BadgeRow {
+            reader,
+            badge: Badge { site, card },
+            low,
+            high,
+        } = self.0;
+        write!(f, "badge {reader} {site} {card} {low} {high}\n")
     }
 }

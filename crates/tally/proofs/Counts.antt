@@ -3,7 +3,9 @@ use Rattle.std.proofs.Common.{◌≡◌, ℕ, zero, suc, ◌+◌, ◌-◌, ◌<�
 use Rattle.std.proofs.lemmas.List.{length-drop}
 use Rattle.std.proofs.lemmas.List.Sums.{count_by-le-length, sum_by-cons, sum_by_push, sum_by-take-drop}
 use Rattle.std.proofs.lemmas.Bool.{cases_Bool, cases_lt, eqb-false, or_parts}
-use Rattle.tally.proofs.Sameness.{Same, alike_eq}
+use Rattle.std.specs.Cmp.{IsEquivalence}
+use Rattle.keys.specs.declared.refusal.Refusal.{Refusal}
+use Rattle.keys.specs.declared.refusal.Refusal.TheVariants.{RunFull}
 use Rattle.tally.specs.Arrivals.{latest, occurs, true_count}
 use Rattle.tally.specs.Owed.{held_below, holds, most_arrivals}
 
@@ -47,19 +49,19 @@ true_count_part alike t k xs =
     let h = sum_by-take-drop (λ x. cond (alike k x) 1 0) xs (length xs - t) in omega arith
 
 -- keys that are the same come equally often
-pub occurs_alike : {K : Type 0} (alike : K → K → Bool) (law : Same alike) (a b : K) → alike a b ≡ true → (xs : List K) → occurs alike a xs ≡ occurs alike b xs
+pub occurs_alike : {K : Type 0} (alike : K → K → Bool) (law : IsEquivalence alike) (a b : K) → alike a b ≡ true → (xs : List K) → occurs alike a xs ≡ occurs alike b xs
 occurs_alike alike law a b e [] = refl
 occurs_alike alike law a b e (x ∷ xs) =
     let h = occurs_alike alike law a b e xs in
     sum_by-cons (λ y. cond (alike a y) 1 0) x xs
-    ∙ rw (alike_eq alike law a b x e, h) (sym (sum_by-cons (λ y. cond (alike b y) 1 0) x xs))
+    ∙ rw (law.congr a b x e, h) (sym (sum_by-cons (λ y. cond (alike b y) 1 0) x xs))
 
 -- a note that is taken finds room
-pub not_full : (n : ℕ) (u : Unit {0}) → ◌≡◌ {A = Result (Unit {0}) ℕ} (Ok u) (cond (eqb n most_arrivals) (Err 7) (Ok tt)) → n ≤ most_arrivals → n < most_arrivals
+pub not_full : (n : ℕ) (u : Unit {0}) → ◌≡◌ {A = Result (Unit {0}) Refusal} (Ok u) (cond (eqb n most_arrivals) (Err RunFull) (Ok tt)) → n ≤ most_arrivals → n < most_arrivals
 not_full n u e l =
     ⊎_elim
     (λ (t : eqb n most_arrivals ≡ true).
-    let f : ◌≡◌ {A = Result (Unit {0}) ℕ} (Ok u) (Err 7) = rw t at e in
+    let f : ◌≡◌ {A = Result (Unit {0}) Refusal} (Ok u) (Err RunFull) = rw t at e in
     let z : ◌≡◌ {A = ℕ} 0 1 = cc in
     absurd (omega arith))
     (λ (t : eqb n most_arrivals ≡ false). omega (arith, eqb-false n most_arrivals t))

@@ -1,4 +1,4 @@
 pub mod Counts
+pub mod HeldBefore
 pub mod OfKey
 pub mod Options
-pub mod Sameness

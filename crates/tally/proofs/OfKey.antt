@@ -1,11 +1,12 @@
 -- records and the keys that they are of
 use Rattle.std.proofs.Common.{◌≡◌, Bool, true, false, Some, None, Option, sym, refl, ◌∙◌, ⊎_elim}
 use Rattle.std.proofs.lemmas.Bool.{cases_Bool, both_ways}
-use Rattle.tally.proofs.Sameness.{Same, alike_eq}
+use Rattle.std.specs.Cmp.{IsEquivalence}
 use Rattle.keys.specs.OfKey.{of_key}
+use Rattle.tally.specs.Owed.{holds}
 use Rattle.tally.proofs.Options.{cases_option}
 
-module _ {K R : Type 0} (alike : K → K → Bool) (reads : R → Option K) (law : Same alike) where
+module _ {K R : Type 0} (alike : K → K → Bool) (reads : R → Option K) (law : IsEquivalence alike) where
   pub of_key_at : (a j : K) (r : R) → reads r ≡ Some j → of_key alike reads a r ≡ alike a j
   of_key_at a j r e = rw (e, of_key) refl
 
@@ -14,7 +15,7 @@ module _ {K R : Type 0} (alike : K → K → Bool) (reads : R → Option K) (law
   agree a b e r =
       ⊎_elim
       (λ (n : reads r ≡ None). rw (n, of_key) refl)
-      (λ (s : (x : K) × (reads r ≡ Some x)). of_key_at a s.0 r s.1 ∙ alike_eq alike law a b s.0 e ∙ sym (of_key_at b s.0 r s.1))
+      (λ (s : (x : K) × (reads r ≡ Some x)). of_key_at a s.0 r s.1 ∙ law.congr a b s.0 e ∙ sym (of_key_at b s.0 r s.1))
       (cases_option (reads r))
 
   -- and keys that are not have no record in common
@@ -26,7 +27,11 @@ module _ {K R : Type 0} (alike : K → K → Bool) (reads : R → Option K) (law
       (λ (s : (x : K) × (reads r ≡ Some x)).
       let p : alike a s.0 ≡ true = sym (of_key_at a s.0 r s.1) ∙ f in
       let q : alike b s.0 ≡ true = sym (of_key_at b s.0 r s.1) ∙ t in
-      absurd (both_ways (alike a b) e (law.transitive a s.0 b p (law.symmetric b s.0 q))))
+      absurd (both_ways (alike a b) e (law.symm a b ∙ law.congr b s.0 a q ∙ law.symm s.0 a ∙ p)))
       (cases_option (reads r)))
       (λ (f : of_key alike reads a r ≡ false). f)
       (cases_Bool (of_key alike reads a r))
+
+-- a place holds a key where what is read of its record is the key
+pub holds_read : {K R : Type 0} (alike : K → K → Bool) (reads : R → Option K) (k : K) (r : R) → holds alike k (reads r) ≡ of_key alike reads k r
+holds_read alike reads k r = elim (reads r) [ None ↦ refl | Some j ↦ refl ]

@@ -1,2 +1,4 @@
 pub mod Arrivals
 pub mod Owed
+pub mod Plans
+pub mod Within

@@ -3,10 +3,12 @@
 #![tactic(auto)]
 
 ghost use Rattle.std.specs.Prelude.{◌≡◌, ℕ, ◌+◌, ◌≤◌, min, false, List, [], ◌∷◌, ◌++◌, length, if◌then◌else◌, None, Ok, Err, Option, MatchResult, nat_eq};
-ghost use Rattle.keys.specs.Refusals.{number_of, told};
 ghost use Rattle.keys.specs.declared.refusal.Refusal.TheVariants.{RunFull};
 ghost use Rattle.tally.specs.Arrivals.{true_count};
 ghost use Rattle.tally.specs.Owed.{Contains, held_below, most_arrivals, most_end};
+
+pub mod plan;
+pub mod run;
 
 use keys::key::Key;
 use keys::refusal::Refusal;
@@ -53,10 +55,18 @@ pub trait Tally {
     fn reach(&self) -> u32
         ensures { result ≡ reaches self.now };
 
+    // T: how many of the latest arrivals count. Spelled out in the clauses here, since the trait itself
+    // can't name a definition over its members.
+    final fn within(&self) -> u32
+        ensures { result ≡ min (noted self.now) (reaches self.now) }
+    {
+        self.arrivals().min(self.reach())
+    }
+
     // Low end and high end: a key's true count in the latest min(n, reach) arrivals lies between.
     fn range(&self, key: Self::Key) -> (u32, u32)
         ensures value { result ≡ (low self.now key, high self.now key) }
-        ensures truth { (xs : List Self.Key) → vouches self.now xs → Contains Self.Key.Key.alike (min (noted self.now) (reaches self.now)) key xs result.0 result.1 };
+        ensures truth { (xs : List Self.Key) → vouches self.now xs → Contains Self.Key.eq (min (noted self.now) (reaches self.now)) key xs result.0 result.1 };
 
     // At most this lies between the ends of any key's range.
     fn width(&self) -> u32
@@ -68,8 +78,8 @@ pub trait Tally {
     // the promise of every key's range, whether it is asked for or not.
     fn ceiling(&self) -> u32
         ensures value { result ≡ top self.now }
-        ensures ranges { (xs : List Self.Key) → vouches self.now xs → (k : Self.Key) → Contains Self.Key.Key.alike (min (noted self.now) (reaches self.now)) k xs (low self.now k) (high self.now k) }
-        ensures missed { (xs : List Self.Key) → vouches self.now xs → (k : Self.Key) → held_below Self.Key.Key.alike (held self.now) k (spots self.now) ≡ false → (high self.now k ≤ result) × (true_count Self.Key.Key.alike (min (noted self.now) (reaches self.now)) k xs ≤ result) }
+        ensures ranges { (xs : List Self.Key) → vouches self.now xs → (k : Self.Key) → Contains Self.Key.eq (min (noted self.now) (reaches self.now)) k xs (low self.now k) (high self.now k) }
+        ensures missed { (xs : List Self.Key) → vouches self.now xs → (k : Self.Key) → held_below Self.Key.eq (held self.now) k (spots self.now) ≡ false → (high self.now k ≤ result) × (true_count Self.Key.eq (min (noted self.now) (reaches self.now)) k xs ≤ result) }
         ensures bounded { (xs : List Self.Key) → vouches self.now xs → result ≤ most_end };
 
     fn places(&self) -> usize
@@ -81,10 +91,17 @@ pub trait Tally {
         ensures value { result ≡ held self.now place }
         ensures past { spots self.now ≤ place → result ≡ None };
 
+    // Whether one of the places before this one holds a key.
+    final fn is_held_before(&self, key: Self::Key, place: usize) -> bool
+        ensures { result ≡ held_below Self.Key.eq (held self.now) key place }
+    {
+        (0..place).any(|i| self.key_at(i).is_some_and(|held| key == held))
+    }
+
     // Puts the key at the end of every list vouched for; refused with 7 exactly when n is
     // 100,000,000, and then the tally is as it was.
     fn note(&mut self, key: Self::Key) -> Result<(), Refusal>
-        ensures answer { told (λ u. u) result ≡ (if nat_eq (noted self.old) most_arrivals then Err (number_of RunFull) else Ok tt) }
+        ensures answer { result ≡ (if nat_eq (noted self.old) most_arrivals then Err RunFull else Ok tt) }
         ensures plan { planned self.old → planned self.new }
         ensures few { noted self.old ≤ most_arrivals }
         ensures counted { (xs : List Self.Key) → vouches self.old xs → length xs ≡ noted self.old }

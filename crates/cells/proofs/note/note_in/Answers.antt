@@ -1,16 +1,14 @@
-use Rattle.tally.proofs.Sameness.{same_of}
 use Rattle.cells.proofs.Kept.{note_kept}
 use Rattle.cells.proofs.Runs.{note_ran}
 use Rattle.cells.proofs.note.note_in.Goals as goal
 
 pub returns : goal.returns
 returns g c =
-    let alike = g.K.Key.alike in
+    let alike = g.K.PartialEq.eq in
     let reads = g.K.Key.reads in
-    let met = g.met.K.Key in
-    let law = same_of alike met.reflexive met.symmetric met.transitive in
+    let law = g.met.K.Eq.laws in
     let key = c.args.key in
-    let back = met.restored key in
+    let back = g.met.K.Key.restored key in
     let r = g.K.Key.lies key in
     record {
       rule = c.apply.ensures.rule;

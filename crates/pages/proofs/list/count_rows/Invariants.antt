@@ -1,6 +1,0 @@
-use Rattle.std.proofs.Common.{◌≡◌, ◌≤◌, length}
-use Rattle.pages.specs.Listed.{listed}
-use Rattle.pages.proofs.list.count_rows.Given as goal
-
-abbrev pub invariant-loop-i : goal.invariant-loop-i
-invariant-loop-i g l = (l.n ≡ length (listed (g.S.Source.row l.source) l.i)) × (l.n ≤ l.i)
