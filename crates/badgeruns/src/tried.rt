@@ -1,4 +1,4 @@
-ghost use Rattle.std.specs.Prelude.{◌≡◌, ◌+◌, ◌/◌, false};
+ghost use Rattle.std.specs.Prelude.{◌≡◌, ◌+◌, ◌/◌, false, List};
 ghost use Rattle.badgetable.specs.Shown.{badge_count, reader_count};
 ghost use Rattle.badgetable.specs.Tables.{accounts_for};
 
@@ -50,15 +50,16 @@ const READERS: u16 = 6;
 
 const BADGES: u16 = 5;
 
-// How often a reader stands in a list of arrivals.
+// How often a reader stands in a list of arrivals. A sum of ones and zeros: a count of what a filter lets
+// through takes a branch for each arrival.
 fn count_reader<A: Key, B: Key>(history: &[(A, B)], reader: A) -> usize
     ensures { result ≡ reader_count A.eq reader history.now }
 {
     history
         .iter()
         .map(|x| x.0)
-        .filter(|held| reader == *held)
-        .count()
+        .map(|held| usize::from(reader == held))
+        .sum()
 }
 
 // How often a badge stands there at a reader.
@@ -85,21 +86,20 @@ pub(crate) struct Tried<'a, A: Key, B: Key> {
 }
 
 impl<'a, A: Listed, B: Listed> Tried<'a, A, B> {
-    // Whether the range of a reader is false of the arrivals.
-    fn is_reader_wrong(&self, history: &[(A, B)], reader: A) -> bool
-        ensures { accounts_for A.Key B.Key self.now.table history.now → result ≡ false }
+    // Whether the range of a reader that came f times is false of the arrivals.
+    fn is_reader_wrong(&self, reader: A, f: usize) -> bool
+        ensures { (ps : List (A × B)) → accounts_for A.Key B.Key self.now.table ps → f ≡ reader_count A.eq reader ps → result ≡ false }
     {
         let width = share_beside(self.table.arrivals() as usize, self.table.rows());
-        let f = count_reader(history, reader);
         !is_right(self.table.reader_range(reader), f, width)
     }
 
-    // Whether the range of a badge at a reader is.
-    fn is_badge_wrong(&self, history: &[(A, B)], reader: A, badge: B) -> bool
-        ensures { accounts_for A.Key B.Key self.now.table history.now → result ≡ false }
+    // Whether the range of a badge at such a reader is.
+    fn is_badge_wrong(&self, history: &[(A, B)], reader: A, f: usize, badge: B) -> bool
+        ensures { accounts_for A.Key B.Key self.now.table history.now → f ≡ reader_count A.eq reader history.now → result ≡ false }
     {
         let outer = share_beside(self.table.arrivals() as usize, self.table.rows());
-        let inner = share_beside(count_reader(history, reader), self.table.cells_a_row());
+        let inner = share_beside(f, self.table.cells_a_row());
         let count = count_badge(history, reader, badge);
         !is_right(
             self.table.badge_range(reader, badge),
@@ -108,23 +108,29 @@ impl<'a, A: Listed, B: Listed> Tried<'a, A, B> {
         )
     }
 
-    fn is_wrong_at(&self, history: &[(A, B)], number: u16) -> bool
-        ensures { accounts_for A.Key B.Key self.now.table history.now → result ≡ false }
+    // The same for the badge with a number.
+    fn is_wrong_there(&self, history: &[(A, B)], reader: A, f: usize, number: u16) -> bool
+        ensures { accounts_for A.Key B.Key self.now.table history.now → f ≡ reader_count A.eq reader history.now → result ≡ false }
     {
-        let Some(reader) = A::nth(number) else {
+        let Some(badge) = B::nth(number) else {
             return false;
         };
-        self.is_reader_wrong(history, reader)
+        self.is_badge_wrong(history, reader, f, badge)
     }
 
-    // A place is a badge at a reader: first all badges at the first reader.
-    fn is_wrong_there(&self, history: &[(A, B)], place: u16) -> bool
-        ensures { accounts_for A.Key B.Key self.now.table history.now → result ≡ false }
+    // How many of the ranges of the reader with a number, and of all badges at it, are false. The reader
+    // is counted once for all of them.
+    fn count_wrong_at(&self, history: &[(A, B)], number: u16) -> u32
+        ensures { accounts_for A.Key B.Key self.now.table history.now → result ≡ 0 }
     {
-        let (Some(reader), Some(badge)) = (A::nth(place / BADGES), B::nth(place % BADGES)) else {
-            return false;
+        let Some(reader) = A::nth(number) else {
+            return 0;
         };
-        self.is_badge_wrong(history, reader, badge)
+        let f = count_reader(history, reader);
+        let badges = (0..BADGES)
+            .filter(|number| self.is_wrong_there(history, reader, f, *number))
+            .count();
+        u32::from(self.is_reader_wrong(reader, f)) + badges as u32
     }
 }
 
@@ -141,14 +147,13 @@ impl<'a, A: Listed, B: Listed> Trial for Tried<'a, A, B> {
         self.table.note(arrival.0, arrival.1)
     }
 
-    // The ranges of all readers asked for, and of all badges at them.
+    // The ranges of all readers asked for, and of all badges at them. Kept as a loop: the sum stops at the
+    // largest number, as that of the whole run.
     fn count_wrong(&self, history: &[(A, B)]) -> u32 {
-        let readers = (0..READERS)
-            .filter(|number| self.is_wrong_at(history, *number))
-            .count();
-        let badges = (0..READERS * BADGES)
-            .filter(|place| self.is_wrong_there(history, *place))
-            .count();
-        (readers + badges) as u32
+        let mut wrong: u32 = 0;
+        for number in 0..READERS {
+            wrong = wrong.saturating_add(self.count_wrong_at(history, number));
+        }
+        wrong
     }
 }

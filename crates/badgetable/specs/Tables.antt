@@ -23,7 +23,7 @@ module _ {A B R S : Type 0} where
 
   -- n: the arrivals noted since the latest clear
   abbrev pub arrivals_in : BadgeTable A B R S → ℕ
-  arrivals_in t = t.run.arrivals
+  arrivals_in t = t.run
 
   -- a table lies in the areas that it was lent, which are as long as they were
   pub record SameAreas (was t : BadgeTable A B R S) : Type 0 where

@@ -1,4 +1,4 @@
-ghost use Rattle.std.specs.Prelude.{◌≡◌, ◌<◌, List, [], ◌∷◌, ◌++◌, length, if◌then◌else◌, Ok, Err, MatchResult, nat_lt};
+ghost use Rattle.std.specs.Prelude.{◌≡◌, ◌≤◌, ◌<◌, List, [], ◌∷◌, ◌++◌, length, if◌then◌else◌, Ok, Err, MatchResult, nat_lt};
 ghost use Rattle.badgetable.specs.Rows.{swept};
 ghost use Rattle.badgetable.specs.Tables.{Entered, Kept, Noted, accounts_for, arrivals_in, cell_count};
 ghost use Rattle.cells.specs.Rules.{Within};
@@ -63,6 +63,7 @@ impl<'a, A: Key, B: Key> BadgeTable<'a, A, B> {
     // badge are kept as two arguments, here and above: two kinds of key, which a list alone holds as one.
     pub fn note(&mut self, reader: A, badge: B) -> Result<(), Refusal>
         ensures answer { result ≡ (if nat_lt (arrivals_in self.old) most_arrivals then Ok tt else Err RunFull) }
+        ensures few { arrivals_in self.old ≤ most_arrivals }
         ensures after { MatchResult result (λ _. Noted A.Key B.Key reader badge self.old self.new) (λ _. self.new ≡ self.old) }
         ensures accounts { MatchResult result (λ _. (ps : List (A × B)) → accounts_for A.Key B.Key self.old ps → accounts_for A.Key B.Key self.new (ps ++ ((reader, badge) ∷ []))) (λ _. self.new ≡ self.old) }
     {

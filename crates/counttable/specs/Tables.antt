@@ -15,7 +15,7 @@ module _ {K R : Type 0} where
     pub cells : t.cells.now ≡ emptied was.cells.now
     pub size : length t.cells.now ≡ length was.cells.now
     pub level : t.level ≡ 0
-    pub run : t.run.arrivals ≡ 0
+    pub run : t.run ≡ 0
     pub lender : t.cells.ghost_name ≡ was.cells.ghost_name
 
 module _ {K R : Type 0} (kind : KeyKind K R) where
@@ -24,16 +24,16 @@ module _ {K R : Type 0} (kind : KeyKind K R) where
     pub cells : t.cells.now ≡ cells_after was.level (kind.lies key) tt was.cells.now (rule_for (of_key kind.eq kind.reads key) was.cells.now)
     pub size : length t.cells.now ≡ length was.cells.now
     pub level : t.level ≡ level_after was.level (rule_for (of_key kind.eq kind.reads key) was.cells.now)
-    pub run : t.run.arrivals ≡ was.run.arrivals + 1
+    pub run : t.run ≡ was.run + 1
     pub lender : t.cells.ghost_name ≡ was.cells.ghost_name
 
   -- which lists of arrivals a table vouches for
   abbrev pub vouches : CountTable K R → List K → Type 0
-  vouches t xs = Vouched kind.eq kind.reads t.cells.now t.level t.run.arrivals xs
+  vouches t xs = Vouched kind.eq kind.reads t.cells.now t.level t.run xs
 
   -- and whether it is where a whole run of them leads
   abbrev pub has_run : CountTable K R → List K → Type 0
-  has_run t xs = Ran kind.eq kind.reads t.cells.now t.level t.run.arrivals xs
+  has_run t xs = Ran kind.eq kind.reads t.cells.now t.level t.run xs
 
   -- the range of a key: from its count to its count and mark, or from 0 to the level
   abbrev pub range_of : CountTable K R → K → ℕ × ℕ

@@ -17,7 +17,7 @@ impl<'a, K: Key> Tally for CountTable<'a, K> {
 
     ghost planned = { λ t. IsTrue (plannable most_cells (length t.cells.now)) };
 
-    ghost noted = { λ t. t.run.arrivals };
+    ghost noted = { λ t. t.run };
 
     ghost reaches = { λ t. most_arrivals };
 

@@ -19,7 +19,7 @@ impl<'a, K: Key> CountTable<'a, K> {
     // and the answers of `open` and of a count by equations: what each call answers, and no fact of a value.
     pub fn over(cells: &'a mut [Cell<K::Record, ()>]) -> Self
         ensures area { (result.cells.now ≡ cells.old) × (result.cells.ghost_name ≡ cells.entry.ghost_name) }
-        ensures start { (result.level ≡ 0) × (result.run.arrivals ≡ 0) }
+        ensures start { (result.level ≡ 0) × (result.run ≡ 0) }
     {
         CountTable {
             cells,

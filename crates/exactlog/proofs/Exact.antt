@@ -45,20 +45,20 @@ module _ {K R : Type 0} (kind : KeyKind K R) (law : IsEquivalence kind.eq) (rest
   module _ (t : ExactLog K R) where
     -- a log's records, oldest first
     abbrev ordered : List R
-    ordered = in_order t.next (kept t.run.arrivals t.area.now)
+    ordered = in_order t.next (kept t.run t.area.now)
 
-    exact_count : (xs : List K) → vouches kind t xs → (k : K) → true_count kind.eq (min t.run.arrivals (reach_of t)) k xs ≡ count_in kind t k
+    exact_count : (xs : List K) → vouches kind t xs → (k : K) → true_count kind.eq (min t.run (reach_of t)) k xs ≡ count_in kind t k
     exact_count xs v k =
-        sym (count_records k (latest (min t.run.arrivals (reach_of t)) xs))
+        sym (count_records k (latest (min t.run (reach_of t)) xs))
         ∙ ap (count_by (is k)) v.same
-        ∙ count_in_order (is k) t.next (kept t.run.arrivals t.area.now)
+        ∙ count_in_order (is k) t.next (kept t.run t.area.now)
 
     -- a key's true count is how often it stands in the log
-    pub exact_contains : (xs : List K) → vouches kind t xs → (k : K) → Contains kind.eq (min t.run.arrivals (reach_of t)) k xs (count_in kind t k) (count_in kind t k)
+    pub exact_contains : (xs : List K) → vouches kind t xs → (k : K) → Contains kind.eq (min t.run (reach_of t)) k xs (count_in kind t k) (count_in kind t k)
     exact_contains xs v k =
         let e = exact_count xs v k in
-        let l = count_by-le-length (is k) (kept t.run.arrivals t.area.now) in
-        let m = length-take (min t.run.arrivals (reach_of t)) t.area.now in
+        let l = count_by-le-length (is k) (kept t.run t.area.now) in
+        let m = length-take (min t.run (reach_of t)) t.area.now in
         record { from = omega arith; upto = omega arith; bounded = omega arith }
 
     length_ordered : length (reverse ordered) ≤ reach_of t
@@ -70,4 +70,4 @@ module _ {K R : Type 0} (kind : KeyKind K R) (law : IsEquivalence kind.eq) (rest
         let few = length_ordered in
         let h = held_nowhere kind.eq (key_at kind t) k (reach_of t) out in
         let none = none_counted k (reverse ordered) (λ i l. h i (omega arith)) in
-        sym (count_in_order (is k) t.next (kept t.run.arrivals t.area.now)) ∙ sym (count_reverse (is k) ordered) ∙ none
+        sym (count_in_order (is k) t.next (kept t.run t.area.now)) ∙ sym (count_reverse (is k) ordered) ∙ none

@@ -18,7 +18,7 @@ impl<'a, K: Key> Tally for ExactLog<'a, K> {
 
     ghost planned = { λ t. IsTrue (plannable most_kept (length t.area.now)) };
 
-    ghost noted = { λ t. t.run.arrivals };
+    ghost noted = { λ t. t.run };
 
     ghost reaches = { reach_of };
 
@@ -44,7 +44,7 @@ impl<'a, K: Key> Tally for ExactLog<'a, K> {
 
     // How often a key stands in the log: both ends of its range.
     fn range(&self, key: K) -> (u32, u32) {
-        let n = count_of(self.records(), key) as u32;
+        let n = count_of(self.records(), key);
         (n, n)
     }
 

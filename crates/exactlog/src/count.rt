@@ -21,7 +21,8 @@ impl<'a, K: Key> ExactLog<'a, K> {
     // Notes an arrival at the next place. Refused as run full, with everything as it was, at
     // 100,000,000 arrivals.
     pub fn count(&mut self, key: K) -> Result<(), Refusal>
-        ensures answer { result ≡ (if nat_lt self.old.run.arrivals most_arrivals then Ok tt else Err RunFull) }
+        ensures answer { result ≡ (if nat_lt self.old.run most_arrivals then Ok tt else Err RunFull) }
+        ensures few { self.old.run ≤ most_arrivals }
         ensures noted { MatchResult result (λ _. Noted (K.Key.lies key) self.old self.new) (λ _. self.new ≡ self.old) }
         ensures logged { OnOk result ((xs : List K) → vouches K.Key self.old xs → vouches K.Key self.new (xs ++ key ∷ [])) }
         ensures same { SameArea self.old self.new }
@@ -35,7 +36,7 @@ impl<'a, K: Key> ExactLog<'a, K> {
 
     // The records of the arrivals within reach, as they lie in the area.
     pub(crate) fn records(&self) -> &[K::Record]
-        ensures { result.now ≡ kept self.now.run.arrivals self.now.area.now }
+        ensures { result.now ≡ kept self.now.run self.now.area.now }
     {
         let held = (self.run.arrivals() as usize).min(self.size());
         &self.area[..held]

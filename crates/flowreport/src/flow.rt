@@ -36,15 +36,15 @@ fn report(n: u32, readers: Fraction, badges: Fraction) -> Answer
 
 impl Flow {
     pub(crate) fn new() -> Flow
-        ensures { result.run.arrivals ≡ 0 }
+        ensures { result.run ≡ 0 }
     {
         Flow { run: Run::new() }
     }
 
     // Takes a record, and answers it.
     pub(crate) fn take(&mut self, heard: Record) -> Answer
-        ensures answer { result ≡ answered self.old.run.arrivals heard }
-        ensures after { self.new.run.arrivals ≡ counted self.old.run.arrivals heard }
+        ensures answer { result ≡ answered self.old.run heard }
+        ensures after { self.new.run ≡ counted self.old.run heard }
     {
         match heard {
             Record::Event(_, _) => {

@@ -14,7 +14,7 @@ pub(crate) fn take_piece(
     ended: bool,
     text: &mut String,
 ) -> Result<Option<usize>, AllocError>
-    ensures value { IfOk result (λ o. (lines : List ℕ) × (string_bytes text.new ≡ string_bytes text.old ++ lines) × Taken ended flow.old.run.arrivals bytes.now lines flow.new.run.arrivals o) }
+    ensures value { IfOk result (λ o. (lines : List ℕ) × (string_bytes text.new ≡ string_bytes text.old ++ lines) × Taken ended flow.old.run bytes.now lines flow.new.run o) }
     ensures within { IfOk result (λ o. IfSome o (λ left. (left ≤ length bytes.now) × (left < 10))) }
 {
     let mut rest = bytes;

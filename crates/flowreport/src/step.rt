@@ -19,9 +19,9 @@ pub(crate) enum Step {
 
 // Takes the record at the front of the bytes; `ended` says that no input follows them.
 pub(crate) fn take_front(flow: &mut Flow, bytes: &[u8], ended: bool) -> Step
-    ensures value { result ≡ step_of flow.old.run.arrivals bytes.now ended }
+    ensures value { result ≡ step_of flow.old.run bytes.now ended }
     ensures within { Within (length bytes.now) result }
-    ensures after { flow.new.run.arrivals ≡ events_after flow.old.run.arrivals bytes.now }
+    ensures after { flow.new.run ≡ events_after flow.old.run bytes.now }
 {
     if bytes.is_empty() {
         return Step::Wait;

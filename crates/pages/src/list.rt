@@ -48,7 +48,6 @@ pub fn list<S: Source>(source: &S, page: &mut [S::Row]) -> Result<usize, Refusal
 pub fn gather<S: Source>(source: &S, heap: Global) -> Result<Vec<S::Row>, AllocError>
     ensures { IfOk result (λ v. v.items ≡ rows_of S.Source source.now) }
 {
-    (0..source.places())
-        .filter_map(|place| source.row_at(place))
-        .collect(heap)
+    let rows = (0..source.places()).filter_map(|place| source.row_at(place));
+    rows.collect(heap)
 }

@@ -229,6 +229,6 @@ ring_empty {K} {R} alike reads s m cs e z f c =
     }
 
 -- a ring as it stands, after an arrival
-pub vouches_noted : {K R : Type 0} (kind : KeyKind K R) (law : IsEquivalence kind.eq) (restored : (k : K) → kind.reads (kind.lies k) ≡ Some k) (k : K) (was t : PaneRing K R) (xs : List K) → was.run.arrivals < 100_000_000 → Noted kind k was t → vouches kind was xs → vouches kind t (xs ++ k ∷ [])
+pub vouches_noted : {K R : Type 0} (kind : KeyKind K R) (law : IsEquivalence kind.eq) (restored : (k : K) → kind.reads (kind.lies k) ≡ Some k) (k : K) (was t : PaneRing K R) (xs : List K) → was.run < 100_000_000 → Noted kind k was t → vouches kind was xs → vouches kind t (xs ++ k ∷ [])
 vouches_noted kind law restored k was t xs few e v =
-    rw (e.shape, e.levels, e.cells, e.run) (ring_noted kind.eq kind.reads law k (kind.lies k) (restored k) was.shape was.levels was.cells.now was.run.arrivals xs v few)
+    rw (e.shape, e.levels, e.cells, e.run) (ring_noted kind.eq kind.reads law k (kind.lies k) (restored k) was.shape was.levels was.cells.now was.run xs v few)

@@ -26,7 +26,7 @@ module _ {K R : Type 0} where
   pub record IsEmpty (s : Shape) (t : PaneRing K R) : Type 0 where
     pub levels : t.levels ≡ no_levels
     pub shape : t.shape ≡ s
-    pub run : t.run.arrivals ≡ 0
+    pub run : t.run ≡ 0
 
   -- and all its cells are free, as many as before
   pub record Emptied (s : Shape) (was t : PaneRing K R) : Type 0 where
@@ -48,7 +48,7 @@ module _ {K R : Type 0} where
 module _ {K R : Type 0} (kind : KeyKind K R) where
   -- which lists of arrivals a ring vouches for
   abbrev pub vouches : PaneRing K R → List K → Type 0
-  vouches t xs = Ringed kind.eq kind.reads t.shape t.levels t.cells.now t.run.arrivals xs
+  vouches t xs = Ringed kind.eq kind.reads t.shape t.levels t.cells.now t.run xs
 
   -- the ends of a key's range
   abbrev pub low_of : PaneRing K R → K → ℕ
@@ -73,4 +73,4 @@ module _ {K R : Type 0} (kind : KeyKind K R) where
     pub cells : t.cells.now ≡ ring_cells_after (of_key kind.eq kind.reads k) (kind.lies k) was.shape was.levels was.cells.now
     pub levels : t.levels ≡ ring_levels_after (of_key kind.eq kind.reads k) (kind.lies k) was.shape was.levels was.cells.now
     pub shape : t.shape ≡ shape_after was.shape
-    pub run : t.run.arrivals ≡ was.run.arrivals + 1
+    pub run : t.run ≡ was.run + 1

@@ -16,7 +16,7 @@ impl<'a, K: Key> Tally for PaneRing<'a, K> {
 
     ghost planned = { λ t. IsTrue (has_plan t.shape (length t.cells.now)) };
 
-    ghost noted = { λ t. t.run.arrivals };
+    ghost noted = { λ t. t.run };
 
     ghost reaches = { reach_of };
 

@@ -1,4 +1,4 @@
-ghost use Rattle.std.specs.Prelude.{◌≡◌, List, [], ◌∷◌, ◌++◌, if◌then◌else◌, Ok, Err, MatchResult, OnOk, nat_lt, slice_set};
+ghost use Rattle.std.specs.Prelude.{◌≡◌, ◌≤◌, List, [], ◌∷◌, ◌++◌, if◌then◌else◌, Ok, Err, MatchResult, OnOk, nat_lt, slice_set};
 ghost use Rattle.keys.specs.declared.refusal.Refusal.TheVariants.{RunFull};
 ghost use Rattle.panering.specs.PaneRing.{Advanced, InPane, Noted, SameArea, vouches};
 ghost use Rattle.tally.specs.Owed.{most_arrivals};
@@ -48,7 +48,8 @@ impl<'a, K: Key> PaneRing<'a, K> {
 
     // Counts an arrival. Refused as run full, with everything as it was, at 100,000,000 arrivals.
     pub fn count(&mut self, key: K) -> Result<(), Refusal>
-        ensures answer { result ≡ (if nat_lt self.old.run.arrivals most_arrivals then Ok tt else Err RunFull) }
+        ensures answer { result ≡ (if nat_lt self.old.run most_arrivals then Ok tt else Err RunFull) }
+        ensures few { self.old.run ≤ most_arrivals }
         ensures after { MatchResult result (λ _. Noted K.Key key self.old self.new) (λ _. self.new ≡ self.old) }
         ensures ringed { OnOk result ((xs : List K) → vouches K.Key self.old xs → vouches K.Key self.new (xs ++ key ∷ [])) }
         ensures same { SameArea self.old self.new }

@@ -14,13 +14,10 @@ use pile::compare;
 use std::io;
 use tally::Tally;
 
-// The three piles are made over any tally, since no proof covers a layer over a type that borrows
-// its cells.
-fn over_table<T: Tally<Key = Reader> + Drop>(
-    rt: &HostRuntime,
-    mut table: T,
-    watched: Reader,
-) -> io::Result<()> {
+fn tables(rt: &HostRuntime, watched: Reader) -> io::Result<()> {
+    let mut area = [None; 3];
+    let mut table = CountTable::<Reader>::over(&mut area);
+    let _ = table.open(3);
     compare(rt, "table", &mut table)?;
     let mut trimmed = Trim::over(table);
     compare(rt, "trim over table", &mut trimmed)?;
@@ -28,11 +25,10 @@ fn over_table<T: Tally<Key = Reader> + Drop>(
     compare(rt, "watch over trim over table", &mut watch)
 }
 
-fn over_ring<T: Tally<Key = Reader> + Drop>(
-    rt: &HostRuntime,
-    mut ring: T,
-    watched: Reader,
-) -> io::Result<()> {
+fn rings(rt: &HostRuntime, watched: Reader) -> io::Result<()> {
+    let mut area = [None; 8];
+    let mut ring = PaneRing::<Reader>::over(&mut area);
+    let _ = ring.open(5, 3, 2);
     compare(rt, "ring", &mut ring)?;
     let mut trimmed = Trim::over(ring);
     compare(rt, "trim over ring", &mut trimmed)?;
@@ -42,11 +38,10 @@ fn over_ring<T: Tally<Key = Reader> + Drop>(
     compare(rt, "trim over watch over trim over ring", &mut pile)
 }
 
-fn over_log<T: Tally<Key = Reader> + Drop>(
-    rt: &HostRuntime,
-    mut log: T,
-    watched: Reader,
-) -> io::Result<()> {
+fn logs(rt: &HostRuntime, watched: Reader) -> io::Result<()> {
+    let mut area = [0u16; 7];
+    let mut log = ExactLog::<Reader>::over(&mut area);
+    let _ = log.open(7);
     compare(rt, "log", &mut log)?;
     let mut watch = Watch::over(log, watched);
     compare(rt, "watch over log", &mut watch)?;
@@ -54,12 +49,11 @@ fn over_log<T: Tally<Key = Reader> + Drop>(
     compare(rt, "trim over watch over log", &mut pile)
 }
 
-// The range of the one reader that came three times to a tally, bare and trimmed.
-fn at_edge<T: Tally<Key = Reader> + Drop>(
-    rt: &HostRuntime,
-    mut ring: T,
-    reader: Reader,
-) -> io::Result<()> {
+// The range of the one reader that came three times to a ring of one pane of two, bare and trimmed.
+fn edge(rt: &HostRuntime, reader: Reader) -> io::Result<()> {
+    let mut area = [None; 2];
+    let mut ring = PaneRing::<Reader>::over(&mut area);
+    let _ = ring.open(2, 1, 1);
     let _ = ring.note(reader);
     let _ = ring.note(reader);
     let (low, high) = ring.range(reader);
@@ -70,35 +64,6 @@ fn at_edge<T: Tally<Key = Reader> + Drop>(
     let trimmed = Trim::over(ring);
     let (low, high) = trimmed.range(reader);
     println!(rt; "trim over ring after three: {low} to {high}")
-}
-
-fn tables(rt: &HostRuntime, watched: Reader) -> io::Result<()> {
-    let mut area = [None; 3];
-    let mut table = CountTable::<Reader>::over(&mut area);
-    let _ = table.open(3);
-    over_table(rt, table, watched)
-}
-
-fn rings(rt: &HostRuntime, watched: Reader) -> io::Result<()> {
-    let mut area = [None; 8];
-    let mut ring = PaneRing::<Reader>::over(&mut area);
-    let _ = ring.open(5, 3, 2);
-    over_ring(rt, ring, watched)
-}
-
-fn logs(rt: &HostRuntime, watched: Reader) -> io::Result<()> {
-    let mut area = [0u16; 7];
-    let mut log = ExactLog::<Reader>::over(&mut area);
-    let _ = log.open(7);
-    over_log(rt, log, watched)
-}
-
-// A ring of one pane of two.
-fn edge(rt: &HostRuntime, reader: Reader) -> io::Result<()> {
-    let mut area = [None; 2];
-    let mut ring = PaneRing::<Reader>::over(&mut area);
-    let _ = ring.open(2, 1, 1);
-    at_edge(rt, ring, reader)
 }
 
 fn main(rt: HostRuntime) -> io::Result<()> {

@@ -1,5 +1,5 @@
 ghost use Rattle.std.specs.Prelude.{◌≡◌, false, IfOk};
-ghost use Rattle.tally.specs.Arrivals.{true_count};
+ghost use Rattle.tally.specs.Arrivals.{occurs, true_count};
 
 use keys::key::Key;
 use keys::reader::Reader;
@@ -15,12 +15,20 @@ const ARRIVALS: usize = 400;
 
 const READERS: u16 = 6;
 
+// How often a key stands in a list of arrivals. A sum of ones and zeros: a count of what a filter lets
+// through takes a branch for each arrival.
+fn count<K: Key>(history: &[K], key: K) -> usize
+    ensures { result ≡ occurs K.eq key history.now }
+{
+    history.iter().map(|held| usize::from(key == *held)).sum()
+}
+
 // How often a key stands in the latest t of all arrivals.
 fn count_latest<K: Key>(history: &[K], t: usize, key: K) -> usize
     ensures { result ≡ true_count K.eq t key history.now }
 {
     let from = history.len().saturating_sub(t);
-    history[from..].iter().filter(|held| key == **held).count()
+    count(&history[from..], key)
 }
 
 // Whether what a tally tells of a key is false of the arrivals; never, of arrivals that it vouches

@@ -58,7 +58,8 @@ pub trait Tally {
     // T: how many of the latest arrivals count. Spelled out in the clauses here, since the trait itself
     // can't name a definition over its members.
     final fn within(&self) -> u32
-        ensures { result ≡ min (noted self.now) (reaches self.now) }
+        ensures value { result ≡ min (noted self.now) (reaches self.now) }
+        ensures few { result ≤ most_arrivals }
     {
         self.arrivals().min(self.reach())
     }

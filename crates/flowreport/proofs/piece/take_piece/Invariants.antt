@@ -6,7 +6,7 @@ use Rattle.flowreport.proofs.piece.take_piece.Given as goal
 abbrev pub invariant-loop-length : goal.invariant-loop-length
 invariant-loop-length l = record {
   within : length l.rest ≤ length l.bytes;
-  so_far : (lines : List ℕ) × (string_bytes l.text ≡ string_bytes l.initial.text ++ lines) × ((more : List ℕ) (m : ℕ) (o : Option ℕ) → Taken l.ended l.flow.run.arrivals l.rest more m o → Taken l.ended l.initial.flow.run.arrivals l.bytes (lines ++ more) m o);
+  so_far : (lines : List ℕ) × (string_bytes l.text ≡ string_bytes l.initial.text ++ lines) × ((more : List ℕ) (m : ℕ) (o : Option ℕ) → Taken l.ended l.flow.run l.rest more m o → Taken l.ended l.initial.flow.run l.bytes (lines ++ more) m o);
 }
 
 abbrev pub decreases-loop-length : goal.decreases-loop-length

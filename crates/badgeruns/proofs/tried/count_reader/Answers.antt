@@ -1,0 +1,23 @@
+use Rattle.std.proofs.Common.{if◌then◌else◌, rules, tests, arith}
+use Rattle.std.proofs.lemmas.Iterator.{YieldsList-from_map, YieldsList-from_slice}
+use Rattle.std.proofs.lemmas.Iterator.Consumers.{YieldsList-at, fits_by_from_yields_list, sum_by_from_yields_List}
+use Rattle.std.proofs.lemmas.List.Sums.{count_by-le-length}
+use Rattle.std.proofs.lemmas.List.{length-map}
+use Rattle.badgetable.specs.Shown.{readers_of}
+use Rattle.badgeruns.proofs.tried.count_reader.Goals as goal
+
+pub sum-requires-clause-fits : goal.sum-requires-clause-fits
+sum-requires-clause-fits g c =
+    let is = g.A.PartialEq.eq c.args.reader in
+    let few = count_by-le-length is (readers_of c.args.history.now) in
+    let many = length-map c.args.history.now (λ p. p.0) in
+    let bound = c.iter.ensures.bound in
+    let long = c.iter.ensures.len in
+    fits_by_from_yields_list _ _ c.map-2.result _
+    (YieldsList-from_map _ (λ held. if is held then 1 else 0) (YieldsList-at c.map-2.ensures.source (YieldsList-from_map _ (λ p. p.0) (YieldsList-from_slice c.args.history.now cc) c.map.ensures.closure (λ x r q k. search (rules, tests)))) c.map-2.ensures.closure (λ x r q k. search (rules, tests)))
+    (omega (arith, few, many, bound, long))
+
+pub returns : goal.returns
+returns g c =
+    sum_by_from_yields_List _ _ c.map-2.result _ c.sum.ensures.ran
+    (YieldsList-from_map _ (λ held. if g.A.PartialEq.eq c.args.reader held then 1 else 0) (YieldsList-at c.map-2.ensures.source (YieldsList-from_map _ (λ p. p.0) (YieldsList-from_slice c.args.history.now cc) c.map.ensures.closure (λ x r q k. search (rules, tests)))) c.map-2.ensures.closure (λ x r q k. search (rules, tests)))
